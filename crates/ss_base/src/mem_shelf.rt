@@ -1,0 +1,117 @@
+// A shelf in memory, with calls that fail as listed.
+ghost use Rattle.std.specs.Prelude.{◌≡◌, ◌+◌, ◌<◌, ◌≤◌, ◌^◌, Some, IfSome, length, position, drop};
+ghost use Rattle.std.specs.Option.{option_copied};
+ghost use Rattle.std.specs.Str.{bytes_eq};
+ghost use Rattle.ss_base.specs.Files.{bytes_of, rest_at};
+ghost use Rattle.ss_base.specs.Shelves.{Gives};
+
+use crate::calls::Calls;
+use crate::{Failed, Shelf, Text};
+
+/// Files in memory. It tells its contents.
+///
+/// Opens and reads are numbered together from 0, and those that are listed fail; so does opening a
+/// name that isn't there. A read gives the least of the chunk, the room and what is left.
+#[derive(Drop)]
+pub struct MemShelf {
+    files: Vec<(Text, Vec<u8>)>,
+    chunk: usize,
+    calls: Calls,
+    faults: u64,
+    is_open: bool,
+    place: usize,
+    taken: usize,
+    ghost gives_some: { 0 < chunk },
+}
+
+impl MemShelf {
+    /// A shelf that holds these files, the first of those with one name. `fail` lists the numbers
+    /// of the calls that fail, and `chunk` is the most bytes that a read gives.
+    pub fn new(files: Vec<(Text, Vec<u8>)>, fail: Vec<u64>, chunk: usize) -> MemShelf
+        requires { 0 < chunk }
+        ensures { ⟦<MemShelf as Shelf>⟧.contents result ≡ Some (bytes_of files.items) }
+    {
+        MemShelf {
+            files,
+            chunk,
+            calls: Calls::new(fail),
+            faults: 0,
+            is_open: false,
+            place: 0,
+            taken: 0,
+        }
+    }
+}
+
+// The place of the first file with this name.
+fn place_of(files: &[(Text, Vec<u8>)], name: &str) -> Option<usize>
+    ensures { result ≡ position (λ f. bytes_eq f.0 name.now) files.now }
+{
+    files.iter().position(|file| file.0.as_str() == name)
+}
+
+// What is left of the file at a place.
+fn rest(files: &[(Text, Vec<u8>)], place: usize, taken: usize) -> Option<&[u8]>
+    ensures value { option_copied result ≡ rest_at files.now place taken }
+    ensures room { IfSome result (λ rest. length rest.now + taken < 2 ^ 64) }
+{
+    let (_, bytes) = files.get(place)?;
+    if taken <= bytes.len() {
+        Some(&bytes[taken..])
+    } else {
+        Some(&[])
+    }
+}
+
+// Puts the least of the chunk, the room and the rest at the front, and says how much that is.
+fn give(rest: &[u8], chunk: usize, into: &mut [u8]) -> usize
+    requires some { 0 < chunk }
+    requires room { 0 < length into.old }
+    ensures within { result ≤ length rest.now }
+    ensures bound { result ≤ length into.new }
+    ensures gives { Gives (Some rest.now) (Some (drop result rest.now)) into.new result }
+{
+    let count = chunk.min(into.len()).min(rest.len());
+    into[..count].copy_from_slice(&rest[..count]);
+    count
+}
+
+impl Shelf for MemShelf {
+    ghost faults = { λ s. s.faults };
+
+    ghost contents = { λ s. Some (bytes_of s.files.items) };
+
+    ghost is_open = { λ s. s.is_open };
+
+    ghost left = { λ s. rest_at s.files.items s.place s.taken };
+
+    fn open_name(&mut self, name: &str) -> Result<(), Failed> {
+        self.is_open = false;
+        let fails = self.calls.next_fails();
+        match place_of(&self.files, name) {
+            Some(place) if !fails => {
+                self.is_open = true;
+                self.place = place;
+                self.taken = 0;
+                Ok(())
+            }
+            _ => {
+                self.faults = self.faults.saturating_add(1);
+                Err(Failed)
+            }
+        }
+    }
+
+    fn read(&mut self, into: &mut [u8]) -> Result<usize, Failed> {
+        if self.calls.next_fails() {
+            self.faults = self.faults.saturating_add(1);
+            return Err(Failed);
+        }
+        let Some(rest) = rest(&self.files, self.place, self.taken) else {
+            return Ok(0);
+        };
+        let count = give(rest, self.chunk, into);
+        self.taken += count;
+        Ok(count)
+    }
+}
