@@ -1,0 +1,4 @@
+pub mod NumberedLemmas
+pub mod TermsLemmas
+pub mod WordsLemmas
+mod WorkedExamples

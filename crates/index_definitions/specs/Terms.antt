@@ -1,0 +1,27 @@
+-- What are the terms of postings?
+--
+-- The keys of the finite map from their terms. A reader needs no maps: a law says that they are the
+-- one list that rises strictly in the order of bytes and has just the postings' terms as members.
+use Rattle.std.specs.Prelude.{◌≡◌, ℕ, List, map}
+use Rattle.std.specs.List.{list_any}
+use Rattle.std.specs.List.Sorted.{IsStrictlySortedBy}
+use Rattle.std.specs.Ordering.{nat_cmp}
+use Rattle.std.specs.Cmp.Lexicographic.{slice_cmp}
+use Rattle.std.specs.FinMap.{keys, from_entries}
+use Rattle.std.specs.Str.{bytes_eq}
+use Rattle.index_definitions.specs.Postings.{Posting}
+
+-- the terms, each once, in the order of their bytes
+abbrev pub terms_of : List Posting → List (List ℕ)
+terms_of ps = keys (from_entries {R = slice_cmp nat_cmp} (map (λ p. (p.term, tt {0})) ps))
+
+-- the terms of the list are those of the postings
+abbrev pub HasTermsOf : List Posting → List (List ℕ) → Type 0
+HasTermsOf ps terms =
+    (term : List ℕ) → list_any (bytes_eq term) terms ≡ list_any (λ p. bytes_eq term p.term) ps
+
+-- a list that rises strictly and has these terms is `terms_of`
+abbrev pub TermsAreTheOneRisingList : Type 0
+TermsAreTheOneRisingList =
+    (ps : List Posting) (terms : List (List ℕ))
+    → IsStrictlySortedBy (slice_cmp nat_cmp) terms → HasTermsOf ps terms → terms ≡ terms_of ps
