@@ -1,0 +1,61 @@
+// The terms of a text, one at a time.
+ghost use Rattle.std.specs.Prelude.{◌≡◌, ◌≤◌, ◌*◌, [], ◌∷◌, length, string_bytes, IfOk, MatchBool};
+ghost use Rattle.std.specs.Str.Lossy.{utf8_lossy};
+ghost use Rattle.index_definitions.specs.Words.{terms_of_text};
+
+use crate::fold::fold_into;
+use ss_base::OutOfMemory;
+use std::alloc::Global;
+use std::marker::Model;
+use unicode_segmentation::{UnicodeSegmentation, UnicodeWords};
+
+/// The text that a document's bytes are read as: UTF-8, with U+FFFD for what is malformed.
+pub fn text_of(alloc: Global, bytes: &[u8]) -> Result<String, OutOfMemory>
+    ensures text { IfOk result (λ text. string_bytes text ≡ utf8_lossy bytes.now) }
+    ensures len { IfOk result (λ text. length (string_bytes text) ≤ 3 * length bytes.now) }
+{
+    Ok(String::from_utf8_lossy(alloc, bytes)?)
+}
+
+/// The terms of a text's words, in order. Contracts see the list of those that are left.
+///
+/// They are read into a buffer that is used again, so that a word by itself takes no memory.
+#[derive(Drop)]
+pub struct Terms<'a> {
+    words: UnicodeWords<'a>,
+}
+
+impl<'a> Model for Terms<'a> {
+    ghost use Rattle.std.specs.Prelude.{ℕ, List, map};
+    ghost use Rattle.unicode_segmentation.specs.Iter.{unicode_words_left};
+    ghost use Rattle.index_definitions.specs.Words.{term_of};
+
+    ghost Value = { List (List ℕ) };
+
+    ghost view = { λ terms. map term_of (unicode_words_left terms.words) };
+}
+
+impl<'a> Terms<'a> {
+    /// All terms of a text. Its words are the segments between the boundaries of Unicode Standard
+    /// Annex 29 that hold an alphanumeric character.
+    pub fn new(text: &'a str) -> Terms<'a>
+        ensures terms { result ≡ terms_of_text text.now }
+        ensures len { length result ≤ length text.now }
+    {
+        Terms {
+            words: text.unicode_words(),
+        }
+    }
+
+    /// Puts the next term in place of what `term` holds, or answers that none is left.
+    pub fn next_into(&mut self, alloc: Global, term: &mut String) -> Result<bool, OutOfMemory>
+        ensures { IfOk result (λ more. MatchBool more
+            (self.old ≡ string_bytes term.new ∷ self.new) (self.old ≡ [])) }
+    {
+        let Some(word) = self.words.next() else {
+            return Ok(false);
+        };
+        fold_into(alloc, term, word)?;
+        Ok(true)
+    }
+}

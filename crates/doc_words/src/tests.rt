@@ -1,0 +1,27 @@
+// What no clause says: that words are found, by examples from the standard.
+ghost use Rattle.std.specs.Prelude.{◌≤◌, length};
+
+use crate::words_of;
+use ss_base::OutOfMemory;
+use std::alloc::Global;
+use std::test::Fail;
+
+// The terms of these bytes, each behind its position.
+fn listed(alloc: Global, bytes: &[u8]) -> Result<String, OutOfMemory>
+    requires { length bytes.now ≤ 8388608 }
+{
+    let mut text = String::new(alloc);
+    for word in &words_of(alloc, bytes)? {
+        let position = word.position;
+        let term = word.term.as_str();
+        write!(text, "{position} {term} ")?;
+    }
+    Ok(text)
+}
+
+#[test]
+fn words_are_numbered_and_folded(rt: HostRuntime) -> Result<(), Fail> {
+    let text = listed(rt.alloc(), b"Ab, \xC3\x9F B")?;
+    assert_eq!(rt; text.as_str(), "1 ab 2 ss 3 b ");
+    Ok(())
+}
