@@ -1,0 +1,3 @@
+pub mod CommandLineLemmas
+pub mod PartsLemmas
+pub mod RunsLemmas

@@ -1,0 +1,63 @@
+-- What does a run leave?
+use Rattle.std.specs.Prelude.{◌≡◌, ℕ, List, [], ⊤, ◌⊎◌, Some, None}
+use Rattle.std.specs.declared.option.Option.{Option}
+use Rattle.std.specs.Io.KnownBytes.{Appends}
+use Rattle.ss_base.specs.Faults.{Rose}
+use Rattle.ss_base.specs.Shelves.{Contents}
+use Rattle.ss_base.specs.Sinks.{GainsFront}
+use Rattle.ss_top.specs.declared.status.Status.{Status}
+use Rattle.ss_top.specs.declared.status.Status.TheVariants.{Done, Usage, ReadFault, WriteFault}
+use Rattle.ss_top.specs.declared.status.Status.TheVariants.{OutOfMemory, Limit}
+use Rattle.ss_top.specs.declared.command.Command.{Command}
+use Rattle.ss_top.specs.Answers.{Answer, over_limit, prints, expected_answer}
+
+-- a fact of contents that are told
+abbrev pub IfTold : Option Contents → (Contents → Type 0) → Type 0
+IfTold None P = ⊤
+IfTold (Some contents) P = P contents
+
+-- where contents are told, they call for this answer
+abbrev pub CallsFor : Option Contents → Command → Answer → Type 0
+CallsFor contents command answer =
+    IfTold contents (λ told. expected_answer command told ≡ Some answer)
+
+-- where contents are told, they call for this text, and nothing is left of the last input
+abbrev pub CallsForText : Option Contents → Command → List ℕ → Option (List ℕ) → Type 0
+CallsForText contents command text left =
+    IfTold contents (λ told. (expected_answer command told ≡ Some (prints text)) × (left ≡ Some []))
+
+-- out gained the text that was called for, and nothing is left of the last input
+pub record PrintsAll (answer : Option Answer) (before after left : Option (List ℕ)) : Type 0 where
+  pub text : List ℕ
+  pub expected : answer ≡ Some (prints text)
+  pub gained : Appends before after text
+  pub at_end : left ≡ Some []
+
+-- out gained a front part of the text that was called for, and nothing is left of the last input
+pub record PrintsFront (answer : Option Answer) (before after left : Option (List ℕ)) : Type 0 where
+  pub text : List ℕ
+  pub expected : answer ≡ Some (prints text)
+  pub gained : GainsFront before after text
+  pub at_end : left ≡ Some []
+
+-- what a status says of out, before and after, and of what is left of the last input, where contents
+-- are told: each but those of a fault or of want of memory is the one that the contents call for
+abbrev pub Meets :
+    Option Answer → Status → Option (List ℕ) → Option (List ℕ) → Option (List ℕ) → Type 0
+Meets answer Done before after left = PrintsAll answer before after left
+Meets answer WriteFault before after left = PrintsFront answer before after left
+Meets answer (Limit hit) before after left = answer ≡ Some (over_limit hit)
+Meets answer Usage before after left = answer ≡ None
+Meets answer (ReadFault which) before after left = ⊤
+Meets answer OutOfMemory before after left = ⊤
+
+-- a text that is called for is printed, unless a count of faults rose or memory ran out
+abbrev pub Completes : Option Answer → Status → Type 0 → Type 0 → Type 0
+Completes answer status shelf_rose out_rose =
+    (text : List ℕ) → answer ≡ Some (prints text)
+    → (shelf_rose → ⊥) → (out_rose → ⊥) → (status ≡ Done) ⊎ (status ≡ OutOfMemory)
+
+-- a stream gained a text, or a front part of it where its count of faults rose
+abbrev pub Tells : Option (List ℕ) → Option (List ℕ) → ℕ → ℕ → List ℕ → Type 0
+Tells before after faults_before faults_after text =
+    Appends before after text ⊎ (Rose faults_before faults_after × GainsFront before after text)

@@ -1,0 +1,16 @@
+//! The top call: all that the program does.
+#![tactic(auto)]
+
+mod command;
+mod commands;
+mod status;
+mod tell;
+mod top;
+
+pub use command::{Command, WordsFault, command_of};
+pub use status::{LimitHit, Status, Which};
+pub use tell::{tell_memory, tell_usage};
+pub use top::run;
+
+#[cfg(test)]
+mod tests;

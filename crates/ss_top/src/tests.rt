@@ -1,0 +1,190 @@
+// Worked cases of the top call. What no clause says is that memory is found, what the texts look
+// like, and which calls of a shelf or a sink in memory fail.
+ghost use Rattle.std.specs.Prelude.{◌<◌};
+
+use crate::{LimitHit, Status, Which, run, tell_memory, tell_usage};
+use ss_base::{MemShelf, MemSink, Text};
+use std::alloc::Global;
+use std::test::Fail;
+
+const USAGE: &str =
+    "usage: ssidx index [--delegates N] [--mode lanes|batch] [--ring N] [--stop FILE] NAME...
+       ssidx script [--delegates N] [--mode lanes|batch] [--ring N] [--trace] NAME
+       ssidx replay [--delegates N] [--order] SCRIPT SCHEDULE
+       ssidx gen [--delegates N] [--mode lanes|batch] [--ring N] DOCS WORDS SEED
+";
+
+// A document, its index, and what the case shows.
+struct Row {
+    case: &'static str,
+    document: &'static [u8],
+    index: &'static str,
+}
+
+const ROWS: [Row; 5] = [
+    Row {
+        case: "words count from 1, and case is folded",
+        document: b"a b A\n",
+        index: "documents 1\nwords 3\nlongest 1\nterms 2\na 2 1:1,3\nb 1 1:2\n",
+    },
+    Row {
+        case: "no bytes",
+        document: b"",
+        index: "documents 1\nwords 0\nlongest 0\nterms 0\n",
+    },
+    Row {
+        case: "one letter folds to two",
+        document: b"Stra\xC3\x9Fe STRASSE",
+        index: "documents 1\nwords 2\nlongest 7\nterms 1\nstrasse 2 1:1,2\n",
+    },
+    Row {
+        case: "a byte that begins no character stands between words",
+        document: b"a\xFFb",
+        index: "documents 1\nwords 2\nlongest 1\nterms 2\na 1 1:1\nb 1 1:2\n",
+    },
+    Row {
+        case: "the example of Unicode Standard Annex 29",
+        document: b"The quick (brown) fox jumps feet, right?",
+        index: "documents 1\nwords 7\nlongest 5\nterms 7\nbrown 1 1:3\nfeet 1 1:6\nfox 1 1:4\n\
+                jumps 1 1:5\nquick 1 1:2\nright 1 1:7\nthe 1 1:1\n",
+    },
+];
+
+// A shelf with one document under `-`.
+fn shelf_of(alloc: Global, document: Vec<u8>, fail: &[u64], chunk: usize) -> Result<MemShelf, Fail>
+    requires { 0 < chunk }
+{
+    let mut files = Vec::new(alloc);
+    files.push((Text::of(alloc, "-")?, document))?;
+    Ok(MemShelf::new(files, fail.to_vec(alloc)?, chunk))
+}
+
+// A sink with ample room.
+fn sink(alloc: Global) -> Result<MemSink, Fail> {
+    Ok(MemSink::new(alloc, 8192, Vec::new(alloc), 4096)?)
+}
+
+fn words_of(alloc: Global, words: &[&str]) -> Result<Vec<String>, Fail> {
+    let mut list = Vec::new(alloc);
+    for word in words {
+        list.push(String::from_str(alloc, word)?)?;
+    }
+    Ok(list)
+}
+
+#[test]
+fn a_document_is_indexed_whatever_the_chunks(rt: HostRuntime) -> Result<(), Fail> {
+    let alloc = rt.alloc();
+    let words = words_of(alloc, &["index", "-"])?;
+    for row in &ROWS {
+        for chunk in [1usize, 3, 4096] {
+            let case = row.case;
+            let mut shelf = shelf_of(alloc, row.document.to_vec(alloc)?, &[], chunk)?;
+            let mut out = sink(alloc)?;
+            let mut err = sink(alloc)?;
+            let status = run(&rt, alloc, &words, &mut shelf, &mut out, &mut err);
+            assert_eq!(rt; status, Status::Done, "at {case}, {chunk}");
+            assert_eq!(rt; out.bytes(), row.index.as_bytes(), "at {case}, {chunk}");
+            assert_eq!(rt; err.bytes(), b"".as_slice(), "at {case}, {chunk}");
+        }
+    }
+    Ok(())
+}
+
+#[test]
+fn a_character_may_stand_across_two_reads(rt: HostRuntime) -> Result<(), Fail> {
+    let alloc = rt.alloc();
+    let words = words_of(alloc, &["index", "-"])?;
+    let mut document = vec![in alloc; b'x'; 4095]?;
+    document.extend_from_slice("é".as_bytes())?;
+    let mut shelf = shelf_of(alloc, document, &[], 4096)?;
+    let mut out = sink(alloc)?;
+    let mut err = sink(alloc)?;
+    let status = run(&rt, alloc, &words, &mut shelf, &mut out, &mut err);
+    assert_eq!(rt; status, Status::Done);
+    let text = out.bytes();
+    assert!(rt; text.starts_with(b"documents 1\nwords 1\nlongest 4096\nterms 1\nxxx"));
+    assert!(rt; text.ends_with("xé 1 1:1\n".as_bytes()));
+    Ok(())
+}
+
+#[test]
+fn what_is_no_command_is_usage(rt: HostRuntime) -> Result<(), Fail> {
+    let alloc = rt.alloc();
+    let lines: [&[&str]; 4] = [&[], &["index"], &["index", "a"], &["index", "-", "-"]];
+    for line in lines {
+        let words = words_of(alloc, line)?;
+        let mut shelf = shelf_of(alloc, Vec::new(alloc), &[], 1)?;
+        let mut out = sink(alloc)?;
+        let mut err = sink(alloc)?;
+        let status = run(&rt, alloc, &words, &mut shelf, &mut out, &mut err);
+        assert_eq!(rt; status, Status::Usage);
+        assert_eq!(rt; status.code(), 2);
+        assert_eq!(rt; out.bytes(), b"".as_slice());
+        assert_eq!(rt; err.bytes(), USAGE.as_bytes());
+    }
+    Ok(())
+}
+
+#[test]
+fn a_failing_read_names_the_input(rt: HostRuntime) -> Result<(), Fail> {
+    let alloc = rt.alloc();
+    let words = words_of(alloc, &["index", "-"])?;
+    // The calls are the open and two reads; no more are made.
+    for call in 0..3u64 {
+        let mut shelf = shelf_of(alloc, b"a".to_vec(alloc)?, &[call], 4096)?;
+        let mut out = sink(alloc)?;
+        let mut err = sink(alloc)?;
+        let status = run(&rt, alloc, &words, &mut shelf, &mut out, &mut err);
+        assert_eq!(rt; status, Status::ReadFault(Which::Name(1)), "at {call}");
+        assert_eq!(rt; out.bytes(), b"".as_slice(), "at {call}");
+        assert_eq!(rt;
+            err.bytes(),
+            b"ssidx: cannot read -\n".as_slice(),
+            "at {call}"
+        );
+    }
+    Ok(())
+}
+
+#[test]
+fn a_failing_write_leaves_what_was_written(rt: HostRuntime) -> Result<(), Fail> {
+    let alloc = rt.alloc();
+    let words = words_of(alloc, &["index", "-"])?;
+    let mut shelf = shelf_of(alloc, b"a b A\n".to_vec(alloc)?, &[], 4096)?;
+    let mut out = MemSink::new(alloc, 8192, vec![in alloc; 1]?, 8)?;
+    let mut err = sink(alloc)?;
+    let status = run(&rt, alloc, &words, &mut shelf, &mut out, &mut err);
+    assert_eq!(rt; status, Status::WriteFault);
+    assert_eq!(rt; out.bytes(), b"document".as_slice());
+    assert_eq!(rt; err.bytes(), b"ssidx: cannot write\n".as_slice());
+    Ok(())
+}
+
+#[test]
+fn a_document_over_the_limit_is_named(rt: HostRuntime) -> Result<(), Fail> {
+    let alloc = rt.alloc();
+    let words = words_of(alloc, &["index", "-"])?;
+    let document = vec![in alloc; b' '; 8388609]?;
+    let mut shelf = shelf_of(alloc, document, &[], 4096)?;
+    let mut out = sink(alloc)?;
+    let mut err = sink(alloc)?;
+    let status = run(&rt, alloc, &words, &mut shelf, &mut out, &mut err);
+    assert_eq!(rt; status, Status::Limit(LimitHit::Document(1)));
+    assert_eq!(rt; out.bytes(), b"".as_slice());
+    let text = b"ssidx: limit: document 1 is over 8388608 bytes: -\n".as_slice();
+    assert_eq!(rt; err.bytes(), text);
+    Ok(())
+}
+
+#[test]
+fn the_two_texts_of_the_program_itself(rt: HostRuntime) -> Result<(), Fail> {
+    let alloc = rt.alloc();
+    let mut err = sink(alloc)?;
+    tell_memory(&mut err);
+    assert_eq!(rt; err.bytes(), b"ssidx: out of memory\n".as_slice());
+    let mut err = sink(alloc)?;
+    tell_usage(&mut err);
+    assert_eq!(rt; err.bytes(), USAGE.as_bytes());
+    Ok(())
+}
