@@ -1,0 +1,67 @@
+"""What the scripts of this folder share: the yardstick's program, and one measured run of any program."""
+import hashlib
+import os
+import resource
+import subprocess
+import tempfile
+import threading
+import time
+from dataclasses import dataclass
+
+HERE = os.path.dirname(os.path.abspath(__file__))
+WORK = os.path.join(HERE, "work")
+
+
+def cargo_program(package, target):
+    """Builds a package where it changed, into a target folder, and returns the path of its program, which has its name."""
+    subprocess.run(
+        ["cargo", "build", "--release", "--quiet", "--offline"],
+        cwd=package,
+        check=True,
+        env=dict(os.environ, CARGO_TARGET_DIR=target),
+    )
+    return os.path.join(target, "release", os.path.basename(package))
+
+
+def yardstick():
+    """The program of baseline/, which is built where it changed."""
+    target = os.environ.get("CARGO_TARGET_DIR") or os.path.join(WORK, "baseline")
+    return cargo_program(os.path.join(HERE, "baseline"), target)
+
+
+def held_bytes():
+    """The most memory that this process has held. No peak of a run below it can be seen."""
+    return resource.getrusage(resource.RUSAGE_SELF).ru_maxrss * 1024
+
+
+@dataclass
+class Run:
+    status: int  # minus the signal's number where a signal ended it
+    seconds: float
+    peak_bytes: int
+    digest: str
+
+
+def measured(words, input_path=os.devnull, seconds_limit=600.0):
+    """Runs a command with a file as standard input, and kills it (status -9) at the limit.
+
+    The system counts a child's peak from the highest that its parent has held, so callers keep their data in files.
+    """
+    with open(input_path, "rb") as given, tempfile.TemporaryFile() as printed:
+        start = time.perf_counter()
+        child = subprocess.Popen(words, stdin=given, stdout=printed, stderr=subprocess.DEVNULL)
+        alarm = threading.Timer(seconds_limit, child.kill)
+        alarm.start()
+        _, status, usage = os.wait4(child.pid, 0)
+        seconds = time.perf_counter() - start
+        alarm.cancel()
+        child.returncode = os.waitstatus_to_exitcode(status)
+        printed.seek(0)
+        digest = hashlib.file_digest(printed, "sha256").hexdigest()
+    return Run(child.returncode, seconds, usage.ru_maxrss * 1024, digest)
+
+
+def best_of(runs):
+    """The least time and the highest peak of several runs of one command."""
+    last = runs[-1]
+    return Run(last.status, min(r.seconds for r in runs), max(r.peak_bytes for r in runs), last.digest)

@@ -1,0 +1,127 @@
+#!/usr/bin/env python3
+"""Compares the speed of `ssidx index` with the unverified yardstick of baseline/, in turns on one machine.
+
+    ratio.py SSIDX FILE...            several documents: `ssidx index FILE...`
+    ratio.py --stdin SSIDX FILE       one document on standard input: `ssidx index -`
+
+Prints for each program the least time of the repeats and the peak of its memory, and the ratio of ssidx's time to
+each of `baseline fast 1` and `baseline plain 1`. Where a limit is given, the figure is printed beside it. Ends with
+1 where the printed indexes differ or a figure is over its limit.
+"""
+import argparse
+import os
+import subprocess
+import sys
+import tempfile
+
+from measure import best_of, held_bytes, measured, yardstick
+
+MIB = 2**20
+
+# What can be limited, by the end of its option's name.
+LIMITS = {
+    "fast": "ssidx's time / that of baseline fast 1",
+    "plain": "ssidx's time / that of baseline plain 1",
+    "bytes": "ssidx's peak memory in bytes for a byte of input",
+    "growth": "the time for twice the input / the time, at worst",
+}
+
+
+def compared(contenders, repeats):
+    """Each contender's best run. They take turns, and each repeat begins with another one."""
+    runs = {name: [] for name, _, _ in contenders}
+    for turn in range(repeats):
+        first = turn % len(contenders)
+        for name, words, input_path in contenders[first:] + contenders[:first]:
+            run = measured(words, input_path)
+            if run.status != 0:
+                sys.exit(f"{name} ended with status {run.status}")
+            runs[name].append(run)
+    best = {name: best_of(those) for name, those in runs.items()}
+    if len({run.digest for those in runs.values() for run in those}) != 1:
+        sys.exit("the printed indexes differ")
+    return best
+
+
+def contenders_for(options, baseline, files):
+    """Name, words and standard input of each."""
+    names = ["-"] if options.stdin else files
+    given = files[0] if options.stdin else os.devnull
+    ssidx = [os.path.abspath(options.ssidx), "index", *options.args.split(), *names]
+    return [
+        ("ssidx", ssidx, given),
+        ("baseline fast 1", [baseline, "fast", "1", *names], given),
+        ("baseline plain 1", [baseline, "plain", "1", *names], given),
+    ]
+
+
+def show(best, size, documents):
+    print(f"{size / MIB:.2f} MiB in {documents} document(s)")
+    for name, run in best.items():
+        print(
+            f"  {name:16} {run.seconds:8.3f} s {size / MIB / run.seconds:7.1f} MiB/s"
+            f"   peak {run.peak_bytes / MIB:7.1f} MiB, {run.peak_bytes / size:5.1f} for a byte of input"
+            f"   ssidx takes {best['ssidx'].seconds / run.seconds:.2f} x its time"
+        )
+
+
+def prefixes_compared(options, baseline):
+    """The best runs over 1/8, 1/4, 1/2 and the whole of the one file, by size in bytes."""
+    whole = os.path.getsize(options.files[0])
+    results = {}
+    for part in (8, 4, 2, 1):
+        with tempfile.NamedTemporaryFile() as prefix:
+            subprocess.run(["head", "-c", str(whole // part), options.files[0]], stdout=prefix, check=True)
+            results[whole // part] = compared(contenders_for(options, baseline, [prefix.name]), options.repeats)
+        show(results[whole // part], whole // part, 1)
+    return results
+
+
+def is_within(what, figure, limit):
+    if limit is None:
+        print(f"{what}: {figure:.2f}")
+        return True
+    print(f"{what}: {figure:.2f}, limit {limit:g}{'' if figure <= limit else ', OVER THE LIMIT'}")
+    return figure <= limit
+
+
+def main():
+    parser = argparse.ArgumentParser(description=__doc__, formatter_class=argparse.RawDescriptionHelpFormatter)
+    parser.add_argument("--stdin", action="store_true", help="give the one file on standard input")
+    parser.add_argument("--growth", action="store_true", help="with --stdin: 1/8, 1/4 and 1/2 of the file too")
+    parser.add_argument("--repeats", type=int, default=5, help="runs of each program (5)")
+    parser.add_argument("--args", default="", help="further words after `index`, as one argument")
+    for name, what in LIMITS.items():
+        parser.add_argument(f"--at-most-{name}", type=float, metavar="X", help=f"limit on: {what}")
+    parser.add_argument("ssidx")
+    parser.add_argument("files", nargs="+", metavar="FILE")
+    options = parser.parse_args()
+    growth = options.growth or options.at_most_growth is not None
+    if options.stdin and len(options.files) != 1 or growth and not options.stdin:
+        parser.error("--stdin takes one file, and growth is measured with --stdin alone")
+
+    baseline = yardstick()
+    print(f"no peak below {held_bytes() / MIB:.1f} MiB can be seen")
+    size = sum(os.path.getsize(name) for name in options.files)
+    if growth:
+        results = prefixes_compared(options, baseline)
+    else:
+        results = {size: compared(contenders_for(options, baseline, options.files), options.repeats)}
+        show(results[size], size, len(options.files))
+
+    best = results[size]
+    figures = {
+        "fast": best["ssidx"].seconds / best["baseline fast 1"].seconds,
+        "plain": best["ssidx"].seconds / best["baseline plain 1"].seconds,
+        "bytes": best["ssidx"].peak_bytes / size,
+    }
+    if growth:
+        seconds = [results[each]["ssidx"].seconds for each in sorted(results)]
+        figures["growth"] = max(after / before for before, after in zip(seconds, seconds[1:]))
+    # A list, so that every figure is shown.
+    within = [is_within(LIMITS[name], figure, getattr(options, f"at_most_{name}")) for name, figure in figures.items()]
+    sys.exit(0 if all(within) else 1)
+
+
+if __name__ == "__main__":
+    main()
