@@ -1,0 +1,177 @@
+-- What an epoch's delegations hold an object to, one call more at a time.
+use Rattle.std.proofs.Common.{◌≡◌, ℕ, ◌<◌, ◌≤◌, Bool, true, false, ◌||◌, ◌&&◌, cond, Option, Some, None, List, [], ◌∷◌, ◌++◌, refl, arith}
+use Rattle.std.specs.Prelude.{if◌then◌else◌, ◌==◌, nat_le}
+use Rattle.std.specs.List.{filter_map, list_any}
+use Rattle.std.proofs.lemmas.Bool.Decides.{nat_tests}
+use Rattle.std.proofs.lemmas.List.Elements.{filter_map-append}
+use Rattle.std.proofs.lemmas.List.Folds.{list_any-append}
+use Rattle.execution_definitions.specs.declared.refusal.Refusal.{Refusal}
+use Rattle.execution_definitions.specs.declared.refusal.Refusal.TheVariants.{UnknownObject}
+use Rattle.execution_definitions.specs.declared.serializer.Serializer.{Serializer}
+use Rattle.execution_definitions.specs.Shapes.{Shape, make, make_fixed, begin, delegate, write, get, end, total, is_begin, reads}
+use Rattle.execution_definitions.specs.Sets.{object_count, serializer_of}
+use Rattle.execution_definitions.specs.Epochs.{since, isolating, this_epoch}
+use Rattle.execution_definitions.specs.Refusals.{breaks, first_of, if_reading, unknown_object, object_id, set_if_to, sets_of}
+use Rattle.execution_definitions.specs.Soundness.{IsSound}
+use Rattle.execution_definitions.proofs.SoundnessLemmas.{kept_when_sound}
+use Rattle.execution_definitions.proofs.EpochsLemmas.{IsWithin, since-push, this_epoch-within, or-false}
+use Rattle.execution_definitions.proofs.SetsLemmas.{object_count_grows, serializer_of-kept}
+
+-- where a row refuses nothing, none of its refusals holds
+pub first_of-none : (first later : Option Refusal) → first_of first later ≡ None →
+    (first ≡ None) × (later ≡ None)
+first_of-none None later none = (refl, none)
+first_of-none (Some refusal) later none = absurd cc
+
+-- a number is known where it is refused as unknown no more
+pub known : (calls : List Shape) (object : ℕ) → unknown_object calls object ≡ None →
+    object < object_count calls
+known calls object none = by_test (nat_le (object_count calls) object) refl none where
+  by_test : (test : Bool) → nat_le (object_count calls) object ≡ test →
+      cond test (Some (UnknownObject (object_id object))) None ≡ None → object < object_count calls
+  by_test true is none = absurd cc
+  by_test false is none = grind (arith, nat_tests)
+
+-- since the last begin nothing was delegated to an object, and nothing read it
+record IsUntouched (calls : List Shape) (object : ℕ) : Type 0 where
+  no_set : (s : Option Serializer) → filter_map (set_if_to s object) (since is_begin calls) ≡ []
+  no_read : list_any (reads object) (since is_begin calls) ≡ false
+
+-- a call leaves an object alone that it neither names nor reads
+untouched-push : (calls : List Shape) (call : Shape) (object : ℕ) → is_begin call ≡ false →
+    ((s : Option Serializer) → set_if_to s object call ≡ None) → reads object call ≡ false →
+    IsUntouched calls object → IsUntouched (calls ++ call ∷ []) object
+untouched-push calls call object no_begin no_set no_read before = record {
+  no_set = λ s.
+      let none = no_set s in
+      let old = before.no_set s in
+      rw (since-push is_begin calls call, no_begin, filter_map-append, old, none) refl;
+  no_read =
+      let old = before.no_read in
+      rw (since-push is_begin calls call, no_begin, list_any-append, old, no_read) refl;
+}
+
+-- nothing was delegated to a number that no object has, and nothing read it
+IsUntouchedPast : List Shape → Type 0
+IsUntouchedPast calls = (object : ℕ) → object_count calls ≤ object → IsUntouched calls object
+
+other_number : (a b : ℕ) → a < b → (a == b) ≡ false
+other_number a b below = grind (arith, nat_tests)
+
+-- an accepted delegation names objects alone
+delegate_elsewhere : (calls : List Shape) (o own : ℕ) (reading : Option ℕ) (object : ℕ) →
+    o < object_count calls → if_reading reading (unknown_object calls) ≡ None →
+    object_count calls ≤ object →
+    IsUntouched calls object → IsUntouched (calls ++ delegate o own reading ∷ []) object
+delegate_elsewhere calls o own reading object inside reading_known past before =
+    let other : (o == object) ≡ false = other_number o object (omega arith) in
+    untouched-push calls (delegate o own reading) object refl (λ s. rw other refl)
+    (unread reading reading_known) before where
+      unread : (r : Option ℕ) → if_reading r (unknown_object calls) ≡ None →
+          reads object (delegate o own r) ≡ false
+      unread None none = refl
+      unread (Some read) none = let inside = known calls read none in
+          other_number read object (omega arith)
+
+-- each accepted call keeps this
+untouched_more : (calls : List Shape) (call : Shape) → IsUntouchedPast calls →
+    breaks calls call ≡ None →
+    IsUntouchedPast (calls ++ call ∷ [])
+unfolding IsUntouchedPast
+untouched_more calls (make by) before ok = λ object past.
+    let grown = object_count_grows calls (make by) in
+    untouched-push calls (make by) object refl (λ s. refl) refl (before object (omega arith))
+untouched_more calls make_fixed before ok = λ object past.
+    let grown = object_count_grows calls make_fixed in
+    untouched-push calls make_fixed object refl (λ s. refl) refl (before object (omega arith))
+untouched_more calls begin before ok = λ object past. record {
+  no_set = λ s. rw (since-push is_begin calls begin) refl;
+  no_read = rw (since-push is_begin calls begin) refl;
+}
+untouched_more calls (delegate o own reading) before ok = λ object past.
+    let grown = object_count_grows calls (delegate o own reading) in
+    let below : object_count calls ≤ object = omega arith in
+    let fits = first_of-none _ _ ok in
+    delegate_elsewhere calls o own reading object (known calls o fits.0)
+    (first_of-none _ _ fits.1).0 below (before object below)
+untouched_more calls (write o) before ok = λ object past.
+    let grown = object_count_grows calls (write o) in
+    untouched-push calls (write o) object refl (λ s. refl) refl (before object (omega arith))
+untouched_more calls (get o) before ok = λ object past.
+    let grown = object_count_grows calls (get o) in
+    untouched-push calls (get o) object refl (λ s. refl) refl (before object (omega arith))
+untouched_more calls end before ok = λ object past.
+    let grown = object_count_grows calls end in
+    untouched-push calls end object refl (λ s. refl) refl (before object (omega arith))
+untouched_more calls total before ok = λ object past.
+    let grown = object_count_grows calls total in
+    untouched-push calls total object refl (λ s. refl) refl (before object (omega arith))
+
+-- so it holds after every sound list
+untouched_past : (calls : List Shape) → IsSound calls → IsUntouchedPast calls
+unfolding IsUntouchedPast
+untouched_past calls sound =
+    kept_when_sound IsUntouchedPast untouched_more
+    (λ object past. record { no_set = λ s. refl; no_read = refl }) calls sound
+
+-- what holds of the calls since the last begin, and of none, holds of the epoch's
+this_epoch_of : {A : Type 0} (open_ : Bool) (xs : List Shape) (f : List Shape → A) (a : A) →
+    f xs ≡ a → f [] ≡ a → f (if open_ then xs else []) ≡ a
+this_epoch_of true xs f a some none = some
+this_epoch_of false xs f a some none = none
+
+-- in a sound list nothing was delegated to a number that no object has
+pub sets_of-past : (calls : List Shape) → IsSound calls → (object : ℕ) →
+    object_count calls ≤ object →
+    (s : Option Serializer) → filter_map (set_if_to s object) (this_epoch calls) ≡ []
+unfolding IsUntouchedPast
+sets_of-past calls sound object past s =
+    this_epoch_of (isolating calls) (since is_begin calls) (filter_map (set_if_to s object)) []
+    ((untouched_past calls sound object past).no_set s) refl
+
+-- and nothing read it
+pub reads-past : (calls : List Shape) → IsSound calls → (object : ℕ) → object_count calls ≤ object →
+    list_any (reads object) (this_epoch calls) ≡ false
+unfolding IsUntouchedPast
+reads-past calls sound object past =
+    this_epoch_of (isolating calls) (since is_begin calls) (list_any (reads object)) false
+    (untouched_past calls sound object past).no_read refl
+
+-- the sets of an object under a given serializer, one call more
+pub sets_under-push : (calls : List Shape) (call : Shape) (s : Option Serializer) (object : ℕ) →
+    IsWithin call →
+    filter_map (set_if_to s object) (this_epoch (calls ++ call ∷ [])) ≡
+    filter_map (set_if_to s object) (this_epoch calls) ++
+    (if isolating calls then filter_map (set_if_to s object) (call ∷ []) else [])
+sets_under-push calls call s object within =
+    rw (this_epoch-within calls call within) (by_case (isolating calls)) where
+      by_case : (open_ : Bool) →
+          filter_map (set_if_to s object)
+          (if open_ then (since is_begin calls ++ call ∷ []) else []) ≡
+          filter_map (set_if_to s object) (if open_ then (since is_begin calls) else []) ++
+          (if open_ then filter_map (set_if_to s object) (call ∷ []) else [])
+      by_case true = filter_map-append (set_if_to s object) (since is_begin calls) (call ∷ [])
+      by_case false = refl
+
+-- the sets of an object, one call more
+pub sets_of-push : (calls : List Shape) (call : Shape) (object : ℕ) → IsWithin call →
+    object < object_count calls →
+    sets_of (calls ++ call ∷ []) object ≡ sets_of calls object ++
+    (if isolating calls then filter_map (set_if_to (serializer_of calls object) object)
+    (call ∷ []) else [])
+sets_of-push calls call object within inside =
+    rw (serializer_of-kept calls call object inside)
+    (sets_under-push calls call (serializer_of calls object) object within)
+
+-- the readers of an object, one call more
+pub reads-push : (calls : List Shape) (call : Shape) (object : ℕ) → IsWithin call →
+    list_any (reads object) (this_epoch (calls ++ call ∷ [])) ≡
+    (list_any (reads object) (this_epoch calls) || (isolating calls && reads object call))
+reads-push calls call object within =
+    rw (this_epoch-within calls call within) (by_case (isolating calls)) where
+      by_case : (open_ : Bool) →
+          list_any (reads object) (if open_ then (since is_begin calls ++ call ∷ []) else []) ≡
+          (list_any (reads object) (if open_ then (since is_begin calls) else []) ||
+          (open_ && reads object call))
+      by_case true = rw (list_any-append, or-false (reads object call)) refl
+      by_case false = refl
