@@ -1,0 +1,10 @@
+pub mod SetOfLemmas
+pub mod KnownLemmas
+pub mod JudgedLemmas
+pub mod AcceptedLemmas
+pub mod DelegatedLemmas
+pub mod CellsLemmas
+pub mod MarkLemmas
+pub mod RepresentsLemmas
+pub mod DelegateLemmas
+pub mod TheoremLemmas

@@ -1,0 +1,5 @@
+use Rattle.partition_check.proofs.TheoremLemmas.{marks_follow}
+use Rattle.partition_check.proofs.law.marks_follow_the_rule.Goals as goal
+
+pub returns : goal.returns
+returns c = marks_follow

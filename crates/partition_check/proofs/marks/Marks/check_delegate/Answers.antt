@@ -1,0 +1,10 @@
+use Rattle.std.proofs.Common.{subst, refl}
+use Rattle.partition_check.specs.Answers.{Answers}
+use Rattle.partition_check.proofs.JudgedLemmas.{judged_delegate-represents}
+use Rattle.partition_check.proofs.marks.Marks.check_delegate.Goals as goal
+
+pub returns-clause-breaks : goal.returns-clause-breaks
+returns-clause-breaks c = λ calls r.
+    subst (λ cause. Answers c.judge_delegate.result cause)
+    (judged_delegate-represents _ calls r _ _ _ _ refl)
+    c.judge_delegate.ensures.judged

@@ -1,0 +1,9 @@
+use Rattle.std.proofs.Common.{subst, refl}
+use Rattle.partition_check.specs.Answers.{Answers}
+use Rattle.partition_check.proofs.JudgedLemmas.{judged_write-represents}
+use Rattle.partition_check.proofs.marks.Marks.check_write.Goals as goal
+
+pub returns-clause-breaks : goal.returns-clause-breaks
+returns-clause-breaks c = λ calls r.
+    subst (λ cause. Answers c.judge_write.result cause)
+    (judged_write-represents _ calls r _ _ refl) c.judge_write.ensures

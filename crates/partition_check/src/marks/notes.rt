@@ -1,0 +1,74 @@
+// The notes: what an accepted call leaves in the marks.
+
+ghost use Rattle.std.specs.Prelude.{◌≡◌, ◌^◌, ◌<◌, true, List, None, [], ◌∷◌, ◌++◌, length};
+ghost use Rattle.execution_definitions.specs.Shapes.{Shape, delegate};
+ghost use Rattle.execution_definitions.specs.Refusals.{breaks};
+ghost use Rattle.partition_check.specs.Judged.{judged};
+ghost use Rattle.partition_check.specs.MarkedAfter.{marked_after, with_call_counted};
+ghost use Rattle.partition_check.specs.MarkedAfter.{changed_at, with_set, with_reader, with_reader_at, HasMark};
+ghost use Rattle.partition_check.specs.Represents.{Represents, RepresentsWith, IsUnmarked};
+ghost use Rattle.partition_check.specs.Answers.{number_read};
+
+use super::Marks;
+use crate::cell::{delegated, read};
+use ss_base::ObjectId;
+
+impl Marks {
+    /// Marks and counts an accepted delegation: one for which `check_delegate` answers Ok.
+    pub fn note_delegate(&mut self, o: ObjectId, own: u64, reading: Option<ObjectId>)
+        requires { judged self.old (delegate o.0 own (number_read reading)) ≡ None }
+        ensures after { self.new ≡ marked_after self.old (delegate o.0 own (number_read reading)) }
+        ensures represents { let call = delegate o.0 own (number_read reading) in
+            RepresentsWith self.old self.new call }
+    {
+        self.hold(o, own);
+        self.share(reading);
+        self.calls += 1;
+    }
+
+    /// Counts an accepted write, get or total. Fewer than 2^60 calls are counted before.
+    pub fn note_call(&mut self)
+        requires { self.old.calls < 2 ^ 60 }
+        ensures after { self.new ≡ with_call_counted self.old }
+        ensures represents { (calls : List Shape) (call : Shape) → IsUnmarked call →
+            Represents self.old calls → breaks calls call ≡ None →
+            Represents self.new (calls ++ call ∷ []) }
+    {
+        self.calls += 1;
+    }
+
+    // Holds the object to the set of an operation that names `own`.
+    fn hold(&mut self, o: ObjectId, own: u64)
+        requires known { o.0 < length self.old.objects }
+        requires isolating { self.old.is_open ≡ true }
+        ensures { self.new ≡
+            record self.old { objects = changed_at o.0 (with_set o.0 own) self.old.objects } }
+    {
+        let at = o.0 as usize;
+        let cell = self.cells[at];
+        self.cells[at] = delegated(cell, self.epochs, o, own);
+    }
+
+    // Marks that an operation reads the object, where it reads one.
+    fn share(&mut self, reading: Option<ObjectId>)
+        requires known { HasMark (number_read reading) self.old.objects }
+        requires isolating { self.old.is_open ≡ true }
+        ensures { self.new ≡
+            record self.old { objects = with_reader_at (number_read reading) self.old.objects } }
+    {
+        if let Some(o) = reading {
+            self.share_one(o);
+        }
+    }
+
+    fn share_one(&mut self, o: ObjectId)
+        requires known { o.0 < length self.old.objects }
+        requires isolating { self.old.is_open ≡ true }
+        ensures { self.new ≡
+            record self.old { objects = changed_at o.0 with_reader self.old.objects } }
+    {
+        let at = o.0 as usize;
+        let cell = self.cells[at];
+        self.cells[at] = read(cell, self.epochs);
+    }
+}

@@ -1,0 +1,171 @@
+// What no clause can say: that calls succeed where memory is ample, and that the refusals come in
+// the order of their rows, by a table written by hand. TooManyCalls, which stands last in every
+// row, can't be reached by a test.
+
+ghost use Rattle.std.specs.Prelude.{◌^◌, ◌<◌};
+
+use crate::{MarkFault, Marks, Refusal};
+use execution_definitions::By;
+use ss_base::{ObjectId, SetId};
+
+// A call of the program context: objects by number, an operation by the number that it names.
+#[derive(Clone, Copy)]
+enum Call {
+    Make(Option<By>),
+    Begin,
+    End,
+    Delegate(u32, u64, Option<u32>),
+    Write(u32),
+    Get(u32),
+    Total,
+}
+
+// Takes the call and gives its refusal; none where it was accepted.
+fn refusal(marks: &mut Marks, call: Call) -> Option<Refusal> {
+    match call {
+        Call::Make(by) => match marks.new_object(by) {
+            Err(MarkFault::Refused(refusal)) => Some(refusal),
+            _ => None,
+        },
+        Call::Begin => marks.begin().err(),
+        Call::End => marks.end().err(),
+        Call::Delegate(o, own, reading) => delegate(marks, ObjectId(o), own, reading),
+        Call::Write(o) => match marks.check_write(ObjectId(o)) {
+            Ok(()) => count(marks),
+            Err(refusal) => Some(refusal),
+        },
+        Call::Get(o) => match marks.check_get(ObjectId(o)) {
+            Ok(()) => count(marks),
+            Err(refusal) => Some(refusal),
+        },
+        Call::Total => match marks.check_total() {
+            Ok(()) => count(marks),
+            Err(refusal) => Some(refusal),
+        },
+    }
+}
+
+fn count(marks: &mut Marks) -> Option<Refusal>
+    requires { marks.old.calls < 2 ^ 60 }
+{
+    marks.note_call();
+    None
+}
+
+fn delegate(marks: &mut Marks, o: ObjectId, own: u64, reading: Option<u32>) -> Option<Refusal> {
+    let reading = match reading {
+        None => None,
+        Some(read) => Some(ObjectId(read)),
+    };
+    if let Err(refusal) = marks.check_delegate(o, own, reading) {
+        return Some(refusal);
+    }
+    marks.note_delegate(o, own, reading);
+    None
+}
+
+fn two_sets(object: u32, first: u64, second: u64) -> Option<Refusal> {
+    Some(Refusal::TwoSets {
+        object: ObjectId(object),
+        first: SetId(first),
+        second: SetId(second),
+    })
+}
+
+#[test]
+fn the_first_refusal_of_a_row_is_answered(rt: HostRuntime) {
+    use Call::*;
+    use Refusal::*;
+    let private = Private {
+        object: ObjectId(1),
+        set: SetId(1),
+    };
+    let script = [
+        // object 0 is read-only, 1 and 2 are by object, 3 by operation
+        (Make(None), None),
+        (Make(Some(By::Object)), None),
+        (Make(Some(By::Object)), None),
+        (Make(Some(By::Own)), None),
+        (End, Some(NotIsolating)),
+        (Total, None),
+        // each of these holds together with the next in its row
+        (Delegate(9, 0, Some(8)), Some(UnknownObject(ObjectId(9)))),
+        (Delegate(1, 0, Some(8)), Some(UnknownObject(ObjectId(8)))),
+        (Delegate(0, 0, Some(0)), Some(NotIsolating)),
+        (Begin, None),
+        (Begin, Some(Isolating)),
+        (Total, Some(Isolating)),
+        (Delegate(0, 0, Some(0)), Some(ReadOnly(ObjectId(0)))),
+        (Delegate(1, 0, None), None),
+        (Delegate(0, 0, Some(1)), Some(ReadOnly(ObjectId(0)))),
+        (Delegate(3, 5, Some(2)), None),
+        (Delegate(3, 6, Some(3)), two_sets(3, 5, 6)),
+        (Delegate(3, 6, Some(1)), two_sets(3, 5, 6)),
+        (Delegate(2, 0, Some(2)), Some(Shared(ObjectId(2)))),
+        (Delegate(2, 0, Some(1)), Some(Shared(ObjectId(2)))),
+        (Delegate(1, 0, Some(1)), Some(SelfRead(ObjectId(1)))),
+        (Delegate(3, 5, Some(1)), Some(private)),
+        (Write(9), Some(UnknownObject(ObjectId(9)))),
+        (Write(0), Some(ReadOnly(ObjectId(0)))),
+        (Write(2), Some(Shared(ObjectId(2)))),
+        (Get(9), Some(UnknownObject(ObjectId(9)))),
+        // what is allowed: a write of a private object, a get of a shared one, a read of a
+        // read-only one, and a second object in a set
+        (Write(1), None),
+        (Get(2), None),
+        (Delegate(3, 5, Some(0)), None),
+        (Make(Some(By::Own)), None),
+        (Delegate(4, 5, Some(2)), None),
+        // a new epoch holds no object to a set, and none to being read
+        (End, None),
+        (Begin, None),
+        (Delegate(3, 6, Some(1)), None),
+        (Delegate(2, 0, None), None),
+    ];
+    let mut marks = Marks::new(rt.alloc());
+    for (place, (call, wanted)) in script.iter().enumerate() {
+        assert_eq!(rt; refusal(&mut marks, *call), *wanted, "at {place}");
+    }
+}
+
+#[test]
+fn marks_tell_the_calls_the_epoch_and_the_sets(rt: HostRuntime) {
+    let mut marks = Marks::new(rt.alloc());
+    for by in [
+        Some(By::Sequence),
+        None,
+        Some(By::Sequence),
+        Some(By::Sequence),
+    ] {
+        assert!(rt; marks.new_object(by).is_ok());
+    }
+    assert!(rt; !marks.isolating());
+    assert_eq!(rt; marks.begin(), Ok(()));
+    assert!(rt; marks.isolating());
+    for (object, set) in [(0, 0), (2, 1), (3, 2)] {
+        assert_eq!(rt;
+            marks.check_delegate(ObjectId(object), 77, None),
+            Ok(SetId(set)),
+            "at {object}"
+        );
+    }
+    assert_eq!(rt; delegate(&mut marks, ObjectId(2), 77, None), None);
+    for (object, set) in [(0, None), (1, None), (2, Some(SetId(1))), (9, None)] {
+        assert_eq!(rt; marks.delegated_to(ObjectId(object)), set, "at {object}");
+    }
+    assert_eq!(rt; (marks.epoch(), marks.calls()), (1, 6));
+    assert_eq!(rt; marks.end(), Ok(()));
+    assert_eq!(rt; marks.delegated_to(ObjectId(2)), None);
+}
+
+#[test]
+fn there_are_1048576_objects_at_most(rt: HostRuntime) {
+    let mut marks = Marks::new(rt.alloc());
+    for number in 0..1_048_576 {
+        assert_eq!(rt; marks.new_object(Some(By::Own)), Ok(ObjectId(number)));
+    }
+    for by in [None, Some(By::Object)] {
+        let refused = Err(MarkFault::Refused(Refusal::TooManyObjects));
+        assert_eq!(rt; marks.new_object(by), refused);
+    }
+}
