@@ -1,0 +1,5 @@
+pub mod Counts
+pub mod Laws
+pub mod Numbers
+pub mod Pairs
+pub mod TextTables

@@ -1,0 +1,54 @@
+// What is operated on.
+ghost use Rattle.std.specs.Prelude.{◌≡◌, ℕ, Option, None, IfOk, OnOk};
+ghost use Rattle.std.specs.Option.{option_copied};
+
+use crate::reducible::Reducible;
+use ss_base::OutOfMemory;
+use std::alloc::Global;
+
+/// Values with operations. An operation on one value may read another value of the class.
+pub trait Class: Sized + Send + Sync + Drop {
+    /// An operation.
+    type Op: Send + Drop + 'static;
+
+    /// What operations contribute to.
+    type Red: Reducible + 'static;
+
+    /// What an operation means: of a value, an operation and the value read, if one is, the new
+    /// value and the contribution. It is total, so an operation that does not fit a value says what
+    /// it does there too.
+    ghost step: { Self → Self.Op → Option Self → Self × Self.Red };
+
+    /// The serialization set that an operation names for itself.
+    ghost own: { Self.Op → ℕ };
+
+    /// Applies `op` to this value, and joins its contribution into `red`. After an `OutOfMemory`
+    /// nothing is said of either.
+    fn apply(
+        &mut self,
+        alloc: Global,
+        op: &Self::Op,
+        reading: Option<&Self>,
+        red: &mut Self::Red,
+    ) -> Result<(), OutOfMemory>
+        ensures value { let after = step self.old op.now (option_copied reading.entry) in
+            OnOk result (self.new ≡ after.0) }
+        ensures contribution { let after = step self.old op.now (option_copied reading.entry) in
+            OnOk result (red.new ≡ Self.Red.join_of red.old after.1) };
+
+    /// The serialization set that `op` names for itself. It takes no memory.
+    fn own_set(op: &Self::Op) -> u64
+        ensures { result ≡ own op.now };
+
+    /// A second value, equal to this one.
+    fn copy(&self, alloc: Global) -> Result<Self, OutOfMemory>
+        ensures { IfOk result (λ copy. copy ≡ self.now) };
+}
+
+/// That an operation reads no value. A literal `None` in its place would leave a call of
+/// `Class::apply` without a proof.
+pub fn no_reading<'a, C>() -> Option<&'a C>
+    ensures { result ≡ None }
+{
+    None
+}

@@ -1,0 +1,24 @@
+//! Classes, whose values are operated on, and reducibles, which many operations contribute to.
+//!
+//! A program delegates operations on values of a class. What an operation means is the class's
+//! `step`, and what it contributes is joined in any order, since each reducible proves that the
+//! order doesn't matter.
+#![tactic(auto)]
+
+mod both;
+mod class;
+mod count_map;
+mod local;
+mod numbers;
+mod reducible;
+mod text_table;
+
+pub use both::Both;
+pub use class::{Class, no_reading};
+pub use count_map::CountMap;
+pub use local::{LocalClass, LocalReducible};
+pub use numbers::{Max, WrapSum};
+pub use reducible::{Reducible, reducible_laws};
+
+#[cfg(test)]
+mod tests;
