@@ -27,20 +27,25 @@ LIMITS = {
 }
 
 
-def compared(contenders, repeats):
-    """Each contender's best run. They take turns, and each repeat begins with another one."""
-    runs = {name: [] for name, _, _ in contenders}
+def compared(groups, repeats):
+    """The best run of each contender, by the size of its input.
+
+    All sizes and contenders take turns in each repeat, and each repeat begins with another contender: the least
+    times of a long run of one alone would be those of a slow or a fast phase of the machine.
+    """
+    runs = {size: {name: [] for name, _, _ in contenders} for size, contenders in groups.items()}
     for turn in range(repeats):
-        first = turn % len(contenders)
-        for name, words, input_path in contenders[first:] + contenders[:first]:
-            run = measured(words, input_path)
-            if run.status != 0:
-                sys.exit(f"{name} ended with status {run.status}")
-            runs[name].append(run)
-    best = {name: best_of(those) for name, those in runs.items()}
-    if len({run.digest for those in runs.values() for run in those}) != 1:
-        sys.exit("the printed indexes differ")
-    return best
+        for size, contenders in groups.items():
+            first = turn % len(contenders)
+            for name, words, input_path in contenders[first:] + contenders[:first]:
+                run = measured(words, input_path)
+                if run.status != 0:
+                    sys.exit(f"{name} ended with status {run.status}")
+                runs[size][name].append(run)
+    for by_name in runs.values():
+        if len({run.digest for those in by_name.values() for run in those}) != 1:
+            sys.exit("the printed indexes differ")
+    return {size: {name: best_of(those) for name, those in by_name.items()} for size, by_name in runs.items()}
 
 
 def contenders_for(options, baseline, files):
@@ -65,16 +70,15 @@ def show(best, size, documents):
         )
 
 
-def prefixes_compared(options, baseline):
-    """The best runs over 1/8, 1/4, 1/2 and the whole of the one file, by size in bytes."""
-    whole = os.path.getsize(options.files[0])
-    results = {}
+def prefixes_of(path, folder):
+    """Files with 1/8, 1/4, 1/2 and the whole of a file, by their sizes in bytes."""
+    whole = os.path.getsize(path)
+    prefixes = {}
     for part in (8, 4, 2, 1):
-        with tempfile.NamedTemporaryFile() as prefix:
-            subprocess.run(["head", "-c", str(whole // part), options.files[0]], stdout=prefix, check=True)
-            results[whole // part] = compared(contenders_for(options, baseline, [prefix.name]), options.repeats)
-        show(results[whole // part], whole // part, 1)
-    return results
+        prefixes[whole // part] = os.path.join(folder, str(part))
+        with open(prefixes[whole // part], "wb") as prefix:
+            subprocess.run(["head", "-c", str(whole // part), path], stdout=prefix, check=True)
+    return prefixes
 
 
 def is_within(what, figure, limit):
@@ -103,11 +107,14 @@ def main():
     baseline = yardstick()
     print(f"no peak below {held_bytes() / MIB:.1f} MiB can be seen")
     size = sum(os.path.getsize(name) for name in options.files)
-    if growth:
-        results = prefixes_compared(options, baseline)
-    else:
-        results = {size: compared(contenders_for(options, baseline, options.files), options.repeats)}
-        show(results[size], size, len(options.files))
+    with tempfile.TemporaryDirectory() as folder:
+        inputs = {size: options.files}
+        if growth:
+            inputs = {part: [prefix] for part, prefix in prefixes_of(options.files[0], folder).items()}
+        groups = {part: contenders_for(options, baseline, files) for part, files in inputs.items()}
+        results = compared(groups, options.repeats)
+    for part, files in inputs.items():
+        show(results[part], part, len(files))
 
     best = results[size]
     figures = {
