@@ -47,7 +47,8 @@ impl<'a> Terms<'a> {
         }
     }
 
-    /// Puts the next term in place of what `term` holds, or answers that none is left.
+    /// Puts the next term in place of what `term` holds, or answers that none is left. A want of
+    /// memory loses that term: a reader that answered it is of no more use.
     pub fn next_into(&mut self, alloc: Global, term: &mut String) -> Result<bool, OutOfMemory>
         ensures { IfOk result (λ more. MatchBool more
             (self.old ≡ string_bytes term.new ∷ self.new) (self.old ≡ [])) }

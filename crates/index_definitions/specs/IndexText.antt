@@ -1,7 +1,7 @@
 -- How is an index printed?
 --
 -- Four lines of counts, and then a line for each term. Numbers are decimal, and each line ends with
--- a line feed. What holds literals is `unfoldable`: as an `abbrev` they would be spelt out in goals.
+-- a line feed. `count_line` is `unfoldable`: as an `abbrev` its texts would be spelt out in goals.
 use Rattle.std.specs.Prelude.{ℕ, ◌/◌, ◌%◌, ◌==◌, ◌||◌, nat_le, Bool, if◌then◌else◌, List, [], ◌∷◌, ◌++◌, map}
 use Rattle.std.specs.Prelude.{length, codes, decimal, slice_index}
 use Rattle.std.specs.List.{flat_map, join_with_byte}
