@@ -4,7 +4,7 @@
 use Rattle.std.specs.Prelude.{◌≡◌, ℕ, Option, Some, None, List, [], ◌∷◌, ◌++◌, length}
 use Rattle.execution_definitions.specs.declared.refusal.Refusal.{Refusal}
 use Rattle.execution_definitions.specs.Shapes.{Shape}
-use Rattle.execution_definitions.specs.Refusals.{breaks}
+use Rattle.execution_definitions.specs.Refusals.{breaks, first_of}
 
 -- a place where there is a refusal, and else a later place
 abbrev pub place_or : Option Refusal → ℕ → Option ℕ → Option ℕ
@@ -20,6 +20,16 @@ first_break_after before (call ∷ rest) =
 -- the place of the first call of a list that is refused
 abbrev pub first_break : List Shape → Option ℕ
 first_break calls = first_break_after [] calls
+
+-- the refusal of the first call that is refused, of a list that follows these calls
+abbrev pub first_refusal_after : List Shape → List Shape → Option Refusal
+first_refusal_after before [] = None
+first_refusal_after before (call ∷ rest) =
+    first_of (breaks before call) (first_refusal_after (before ++ call ∷ []) rest)
+
+-- the refusal of the first call of a list that is refused
+abbrev pub first_refusal : List Shape → Option Refusal
+first_refusal calls = first_refusal_after [] calls
 
 -- no call of the list is refused
 abbrev pub IsSound : List Shape → Type 0

@@ -1,7 +1,8 @@
 -- What do contracts see of marks?
 --
 -- As much of the calls so far as the partition rule asks for: a few counts, and one mark an object.
-use Rattle.std.specs.Prelude.{ℕ, Bool, Option, Some, None, List, slice_get}
+use Rattle.std.specs.Prelude.{ℕ, Bool, Option, Some, None, List, slice_get, option_and_then}
+use Rattle.ss_base.specs.declared.ids.SetId.{SetId}
 use Rattle.execution_definitions.specs.declared.serializer.Serializer.{Serializer}
 use Rattle.execution_definitions.specs.Sets.{set_under}
 use Rattle.partition_check.specs.declared.mark.Mark.{Mark}
@@ -31,3 +32,7 @@ serializer_at (Some mark) = mark.serializer
 -- the set of a delegation to an object with this mark
 abbrev pub set_marked : Option Mark → ℕ → ℕ → ℕ
 set_marked mark object own = set_under (serializer_at mark) object own
+
+-- the set to which an object was delegated in the open epoch, if it was
+abbrev pub set_delegated : Marked → ℕ → Option SetId
+set_delegated marked object = option_and_then (λ mark. mark.set) (mark_at marked object)

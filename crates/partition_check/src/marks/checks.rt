@@ -1,10 +1,10 @@
 // The checks: what a call would be answered, with nothing changed.
 
-ghost use Rattle.std.specs.Prelude.{◌≡◌, List, IfOk, option_and_then};
+ghost use Rattle.std.specs.Prelude.{◌≡◌, List, IfOk};
 ghost use Rattle.execution_definitions.specs.Shapes.{Shape, delegate, write, get, total};
 ghost use Rattle.execution_definitions.specs.Sets.{set_of as set_in};
 ghost use Rattle.execution_definitions.specs.Refusals.{if_reading};
-ghost use Rattle.partition_check.specs.Marked.{mark_at, set_marked};
+ghost use Rattle.partition_check.specs.Marked.{mark_at, set_marked, set_delegated};
 ghost use Rattle.partition_check.specs.Judged.{judged, judged_write, judged_delegate, unknown_read, private_read};
 ghost use Rattle.partition_check.specs.Represents.{Represents, IsDelegatedTo};
 ghost use Rattle.partition_check.specs.Answers.{Answers, AnswersRule, number_read};
@@ -70,7 +70,7 @@ impl Marks {
     /// The set to which `o` was delegated in this epoch. None in aggregation, for an object that
     /// nothing was delegated to, and for a number that no object has.
     pub fn delegated_to(&self, o: ObjectId) -> Option<SetId>
-        ensures marked { result ≡ option_and_then (λ mark. mark.set) (mark_at self.now o.0) }
+        ensures marked { result ≡ set_delegated self.now o.0 }
         ensures calls { (calls : List Shape) → Represents self.now calls →
             IsDelegatedTo calls o.0 result }
     {

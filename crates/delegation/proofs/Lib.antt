@@ -1,0 +1,3 @@
+pub mod SentLemmas
+pub mod FollowLemmas
+pub mod ProgramLemmas

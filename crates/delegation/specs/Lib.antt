@@ -1,0 +1,6 @@
+pub mod Meanings
+pub mod Sequential
+pub mod Runtimes
+pub mod Answers
+pub mod Programs
+pub mod Jobs

@@ -1,0 +1,142 @@
+// The implementor's side: the hooks behind the calls of `Delegation`.
+ghost use Rattle.std.specs.Prelude.{◌≡◌, Option, Some, false, ⊤, IfOk, OnOk, slice_get};
+ghost use Rattle.std.specs.Borrow.{sem, follows_so};
+ghost use mathlib.Core.Option.{none};
+ghost use Rattle.delegation.specs.Jobs.{HasLaunched, EachGives};
+ghost use Rattle.delegation.specs.Meanings.{meaning};
+ghost use Rattle.delegation.specs.Runtimes.{RuntimeView};
+ghost use Rattle.delegation.specs.Answers.{Answered};
+ghost use Rattle.delegation.specs.declared.call.Call.TheVariants as call;
+ghost use Rattle.delegation.specs.declared.call.Reply.TheVariants as reply;
+
+use crate::call::Fault;
+use crate::job::{Job, Launched, Starter};
+use class_laws::Class;
+use execution_definitions::By;
+use ss_base::{CallNo, LaneLog, ObjectId, OutOfMemory};
+use std::alloc::AllocError;
+use std::sync::Wait;
+use std::thread::Threads;
+
+/// What a runtime leaves when it is done with.
+#[derive(Drop)]
+pub struct Finished<C: Class> {
+    /// The objects' values, by their numbers.
+    pub values: Vec<C>,
+    /// What all operations contributed.
+    pub total: C::Red,
+    /// What each lane ran, in order.
+    pub logs: Vec<LaneLog>,
+}
+
+/// What an implementor writes: a hook behind each call of `Delegation`, with the same meaning.
+///
+/// Each hook owes `Answered` alone, which speaks of the runtime before the call and after it. What
+/// that says of whole lists of calls is proved once, at the calls of `Delegation`.
+///
+/// Hooks that may need threads are handed a starter, since a method of an impl has no evidence that
+/// a value may go to another thread. `do_delegate` can start one job, and keep the `RunningJob`
+/// until `do_call`, `do_get`, `do_end` or `do_finish` joins it; `do_end` and `do_finish` can have
+/// many jobs done and wait for all of them.
+pub trait Runtime<C: Class>: Sized {
+    /// What its threads are given to do.
+    type Task: Job;
+
+    /// What contracts see of it.
+    ghost seen: { Self → RuntimeView C C.Red };
+
+    /// Behind `Delegation::make`.
+    fn do_make(&mut self, value: C, by: By) -> Result<ObjectId, Fault>
+        ensures { Answered (meaning C.step C.own C.Red.unit_value C.Red.join_of)
+            reply.Made (seen self.old) (seen self.new) (call.Make value by) result };
+
+    /// Behind `Delegation::make_fixed`.
+    fn do_make_fixed(&mut self, value: C) -> Result<ObjectId, Fault>
+        ensures { Answered (meaning C.step C.own C.Red.unit_value C.Red.join_of)
+            reply.Made (seen self.old) (seen self.new) (call.MakeFixed value) result };
+
+    /// Behind `Delegation::begin`.
+    fn do_begin(&mut self) -> Result<(), Fault>
+        ensures { Answered (meaning C.step C.own C.Red.unit_value C.Red.join_of)
+            (λ _. reply.Done) (seen self.old) (seen self.new) call.Begin result };
+
+    /// Behind `Delegation::delegate`. `starter` starts one job.
+    fn do_delegate<R: Threads + Wait + Copy, S: Starter<Self::Task, Launched<Self::Task>>>(
+        &mut self,
+        rt: &R,
+        starter: &S,
+        o: ObjectId,
+        op: C::Op,
+        reading: Option<ObjectId>,
+    ) -> Result<CallNo, Fault>
+        requires can { (task : _) → S.can starter.now task }
+        requires means { (task : _) (launched : _) → S.gives starter.now task launched →
+            HasLaunched Self.Task.gives task launched }
+        ensures { Answered (meaning C.step C.own C.Red.unit_value C.Red.join_of)
+            reply.Sent (seen self.old) (seen self.new) (call.Delegate o op reading) result };
+
+    /// Behind `Delegation::call`.
+    fn do_call<R: Threads + Wait + Copy>(
+        &mut self,
+        rt: &R,
+        o: ObjectId,
+        op: C::Op,
+    ) -> Result<(), Fault>
+        ensures { Answered (meaning C.step C.own C.Red.unit_value C.Red.join_of)
+            (λ _. reply.Done) (seen self.old) (seen self.new) (call.Write o op) result };
+
+    /// Behind `Delegation::get`.
+    fn do_get<R: Threads + Wait + Copy>(&mut self, rt: &R, o: ObjectId) -> Result<&C, Fault>
+        // What is seen once the value isn't lent any more.
+        ensures* after { sem 𝓛 (follows_so Self.row Self.row self.entry.ghost_name none
+            (λ _ _. ⊤) (λ new. Answered (meaning C.step C.own C.Red.unit_value C.Red.join_of)
+            (λ value. reply.Value value.now) (seen self.old) (seen new) (call.Get o) result)) }
+
+        ensures value { IfOk result (λ value.
+            slice_get (seen self.old).state.values o.0 ≡ Some value.now) };
+
+    /// Behind `Delegation::end`. `starter` has many jobs done.
+    fn do_end<
+        R: Threads + Wait + Copy,
+        S: Starter<Vec<Self::Task>, Result<Vec<Self::Task>, AllocError>>,
+    >(
+        &mut self,
+        rt: &R,
+        starter: &S,
+    ) -> Result<(), Fault>
+        requires can { (tasks : _) → S.can starter.now tasks }
+        requires means { (tasks : _) (answer : _) → S.gives starter.now tasks answer →
+            IfOk answer (λ done. EachGives Self.Task.gives tasks.items done.items) }
+        ensures { Answered (meaning C.step C.own C.Red.unit_value C.Red.join_of)
+            (λ _. reply.Done) (seen self.old) (seen self.new) call.End result };
+
+    /// Behind `Delegation::total`.
+    fn do_total(&mut self) -> Result<&C::Red, Fault>
+        // What is seen once the total isn't lent any more.
+        ensures* after { sem 𝓛 (follows_so Self.row Self.row self.entry.ghost_name none
+            (λ _ _. ⊤) (λ new. Answered (meaning C.step C.own C.Red.unit_value C.Red.join_of)
+            (λ total. reply.Total total.now) (seen self.old) (seen new) call.Total result)) }
+
+        ensures total { IfOk result (λ total. total.now ≡ (seen self.old).state.total) };
+
+    /// Behind `Delegation::runs`.
+    fn do_runs(&self) -> &[LaneLog]
+        ensures { result.now ≡ (seen self.now).logs };
+
+    /// Behind `Delegation::finish`. `starter` has many jobs done.
+    fn do_finish<
+        R: Threads + Wait + Copy,
+        S: Starter<Vec<Self::Task>, Result<Vec<Self::Task>, AllocError>>,
+    >(
+        self,
+        rt: &R,
+        starter: &S,
+    ) -> Result<Finished<C>, OutOfMemory>
+        requires can { (tasks : _) → S.can starter.now tasks }
+        requires means { (tasks : _) (answer : _) → S.gives starter.now tasks answer →
+            IfOk answer (λ done. EachGives Self.Task.gives tasks.items done.items) }
+        ensures usable { OnOk result ((seen self).has_failed ≡ false) }
+        ensures values { IfOk result (λ end. end.values.items ≡ (seen self).state.values) }
+        ensures total { IfOk result (λ end. end.total ≡ (seen self).state.total) }
+        ensures logs { IfOk result (λ end. end.logs.items ≡ (seen self).sent) };
+}
