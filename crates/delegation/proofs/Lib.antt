@@ -1,3 +1,5 @@
 pub mod SentLemmas
 pub mod FollowLemmas
 pub mod ProgramLemmas
+pub mod OperationLemmas
+pub mod FrontLemmas

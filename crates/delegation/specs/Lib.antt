@@ -4,3 +4,5 @@ pub mod Runtimes
 pub mod Answers
 pub mod Programs
 pub mod Jobs
+pub mod PlainParts
+pub mod Plains

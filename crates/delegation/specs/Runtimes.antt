@@ -1,5 +1,5 @@
 -- What do contracts see of a runtime, and when is it after a list of calls?
-use Rattle.std.specs.Prelude.{◌≡◌, ℕ, zero, suc, Bool, false, Some, List, ◌++◌, length, map, slice_get}
+use Rattle.std.specs.Prelude.{◌≡◌, ℕ, zero, suc, Bool, false, Some, List, [], ◌++◌, length, map, slice_get}
 use Rattle.std.specs.List.{range_with_len}
 use Rattle.ss_base.specs.declared.ids.Run.{Run}
 use Rattle.execution_definitions.specs.Shapes.{Shape}
@@ -57,3 +57,9 @@ module _ {C O R : Type 0} (m : Meaning C O R) where
     pub marks : Represents runtime.marks (shapes_of m calls)
     pub sent : runtime.sent ≡ sent_to_lanes (shapes_of m calls) runtime.delegates
     pub logs : HasDone runtime.sent runtime.logs runtime.marks.is_open
+
+  -- a runtime with so many delegates before its first call
+  pub record IsNew (runtime : RuntimeView C R) (n : ℕ) : Type 0 where
+    pub after : IsAfter runtime []
+    pub delegates : runtime.delegates ≡ n
+    pub usable : runtime.has_failed ≡ false

@@ -22,15 +22,19 @@ pub record State (C R : Type 0) : Type 0 where
 abbrev pub call_no : ℕ → CallNo
 call_no number = record { 0 = number }
 
+-- the value that an operation reads, where it reads one
+abbrev pub value_read : {C : Type 0} → List C → Option ObjectId → Option C
+value_read values None = None
+value_read values (Some object) = slice_get values object.0
+
+-- a new object
+abbrev pub with_object : {C R : Type 0} → State C R → C → State C R
+with_object state value = record state { values = state.values ++ value ∷ [] }
+
 module _ {C O R : Type 0} (m : Meaning C O R) where
   -- before the first call
   abbrev pub initial_state : State C R
   initial_state = record { values = []; total = m.unit }
-
-  -- the value that an operation reads, where it reads one
-  abbrev pub value_read : List C → Option ObjectId → Option C
-  value_read values None = None
-  value_read values (Some object) = slice_get values object.0
 
   -- a new value in its object's place, and a contribution joined
   abbrev pub put : State C R → ℕ → C × R → State C R
@@ -48,10 +52,6 @@ module _ {C O R : Type 0} (m : Meaning C O R) where
   abbrev pub operated : State C R → ℕ → O → Option C → State C R
   operated state object op read =
       operated_on state object op read (slice_get state.values object)
-
-  -- a new object
-  abbrev pub with_object : State C R → C → State C R
-  with_object state value = record state { values = state.values ++ value ∷ [] }
 
   -- what a call leaves
   abbrev pub state_after : State C R → Call C O R → State C R

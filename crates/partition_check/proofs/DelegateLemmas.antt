@@ -46,7 +46,7 @@ length-changed_at change [] i = refl
 length-changed_at change (mark ∷ marks) zero = refl
 length-changed_at change (mark ∷ marks) (suc i) = rw (length-changed_at change marks i) refl
 
-length-with_reader_at : (reading : Option ℕ) (marks : List Mark) →
+pub length-with_reader_at : (reading : Option ℕ) (marks : List Mark) →
     length (with_reader_at reading marks) ≡ length marks
 length-with_reader_at None marks = refl
 length-with_reader_at (Some read) marks = length-changed_at with_reader marks read
