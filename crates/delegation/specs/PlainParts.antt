@@ -1,11 +1,10 @@
 -- What is kept by the undelegated runtime, and what an operation on it needs?
-use Rattle.std.specs.Prelude.{◌≡◌, ℕ, ◌<◌, Bool, false, Option, Some, None, List, length}
+use Rattle.std.specs.Prelude.{◌≡◌, ℕ, ◌<◌, Bool, false, Option, Some, None, Result, Err, List, length}
 use Rattle.ss_base.specs.declared.ids.ObjectId.{ObjectId}
 use Rattle.ss_base.specs.declared.ids.Run.{Run}
-use Rattle.execution_definitions.specs.declared.serializer.By.{By}
 use Rattle.partition_check.specs.Marked.{Marked}
-use Rattle.delegation.specs.declared.call.Call.{Call}
-use Rattle.delegation.specs.declared.call.Call.TheVariants.{Make, MakeFixed}
+use Rattle.partition_check.specs.declared.fault.MarkFault.{MarkFault}
+use Rattle.partition_check.specs.declared.fault.MarkFault.TheVariants.{Refused}
 use Rattle.delegation.specs.Sequential.{State}
 
 -- values with a total
@@ -17,10 +16,12 @@ abbrev pub IsReadable : ℕ → ℕ → Option ObjectId → Type 0
 IsReadable count object None = Unit {0}
 IsReadable count object (Some read) = (read.0 < count) × (read.0 ≡ object → ⊥)
 
--- the call that makes an object: a read-only one where no serializer is asked for
-abbrev pub making : {C O R : Type 0} → C → Option By → Call C O R
-making value None = MakeFixed value
-making value (Some by) = Make value by
+-- a refusal changed neither marks nor values
+abbrev pub IsUnchanged :
+    {T C : Type 0} → Result T MarkFault → Marked → Marked → List C → List C → Type 0
+IsUnchanged (Err (Refused refusal)) marks new_marks values new_values =
+    (new_marks ≡ marks) × (new_values ≡ values)
+IsUnchanged _ marks new_marks values new_values = Unit {0}
 
 -- what holds between calls, as long as memory was found
 pub record IsKept {C : Type 0} (values : List C) (marks : Marked) (logs : List (List Run))

@@ -29,7 +29,7 @@ use std::thread::Threads;
 /// - `follows`: for every list of calls that the runtime is after, a refusal is exactly that of the
 ///   partition rule, and after Ok the runtime is after the list with this call at its end.
 ///
-/// Every `Runtime` has these calls.
+/// A runtime has all of these from its hooks: its `impl Delegation` is empty.
 pub trait Delegation<C: Class>: Runtime<C> {
     /// Makes an object with this value, whose operations are mapped to sets as `by` says, and gives
     /// its number. It is refused where there are too many objects or calls.
@@ -175,5 +175,3 @@ pub trait Delegation<C: Class>: Runtime<C> {
         self.do_finish(rt, &starter)
     }
 }
-
-impl<C: Class, D: Runtime<C>> Delegation<C> for D {}

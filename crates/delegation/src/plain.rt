@@ -1,32 +1,30 @@
 // The undelegated runtime.
 mod steps;
 
-ghost use Rattle.std.specs.Prelude.{◌≡◌, ◌<◌, Some, IfOk, OnOk, length, slice_get};
+ghost use Rattle.std.specs.Prelude.{IfOk};
 ghost use Rattle.delegation.specs.Meanings.{meaning};
 ghost use Rattle.delegation.specs.Runtimes.{IsNew};
-ghost use Rattle.delegation.specs.Answers.{Answered};
-ghost use Rattle.delegation.specs.PlainParts.{IsKept, IsReadable, making, state_of};
-ghost use Rattle.delegation.specs.Sequential.{operated, value_read};
-ghost use Rattle.delegation.specs.declared.call.Reply.TheVariants as reply;
+ghost use Rattle.delegation.specs.PlainParts.{IsKept};
 
 use crate::call::Fault;
+use crate::delegation::Delegation;
 use crate::job::{Job, Launched, Starter};
 use crate::runtime::{Finished, Runtime};
-use class_laws::{Class, LocalClass, LocalReducible};
+use class_laws::{Class, Reducible};
 use execution_definitions::By;
 use partition_check::{MarkFault, Marks};
 use ss_base::{CallNo, LaneLog, ObjectId, OutOfMemory, Run};
 use std::alloc::{AllocError, Global};
 use std::sync::Wait;
 use std::thread::Threads;
-use steps::{log_run, operate};
+use steps::{add, log_run, operate, value_of};
 
 /// The runtime without delegates: every operation runs at its call, and one log tells of all.
 #[derive(Drop)]
-pub struct Plain<C: LocalClass> {
+pub struct Plain<C: Class> {
     alloc: Global,
     values: Vec<C>,
-    total: C::LocalRed,
+    total: C::Red,
     marks: Marks,
     // One log, that of lane 0.
     logs: Vec<LaneLog>,
@@ -46,13 +44,13 @@ impl Job for Idle {
     }
 }
 
-impl<C: LocalClass> Plain<C> {
+impl<C: Class> Plain<C> {
     ghost use Rattle.delegation.specs.Plains.{plain_view};
 
     /// A runtime before its first call.
     pub fn new(alloc: Global) -> Result<Plain<C>, OutOfMemory>
-        ensures { IfOk result (λ plain. IsNew (meaning C.local_step C.local_own
-            C.LocalRed.local_unit_value C.LocalRed.local_join_of) (plain_view plain) 0) }
+        ensures { IfOk result (λ plain. IsNew (meaning C.step C.own C.Red.unit_value
+            C.Red.join_of) (plain_view plain) 0) }
     {
         let mut logs = Vec::with_capacity(alloc, 1)?;
         logs.push(LaneLog {
@@ -61,65 +59,11 @@ impl<C: LocalClass> Plain<C> {
         Ok(Plain {
             alloc,
             values: Vec::new(alloc),
-            total: C::LocalRed::local_unit(alloc),
+            total: C::Red::unit(alloc),
             marks: Marks::new(alloc),
             logs,
             has_failed: false,
         })
-    }
-
-    // Makes an object with this value; a read-only one where no serializer is asked for.
-    fn add(&mut self, value: C, by: Option<By>) -> Result<ObjectId, Fault>
-        ensures { Answered (meaning C.local_step C.local_own C.LocalRed.local_unit_value
-            C.LocalRed.local_join_of) reply.Made (plain_view self.old) (plain_view self.new)
-            (making value by) result }
-    {
-        if self.has_failed {
-            return Err(Fault::OutOfMemory);
-        }
-        match self.marks.new_object(by) {
-            Ok(object) => {
-                if self.values.push(value).is_ok() {
-                    return Ok(object);
-                }
-                self.has_failed = true;
-                Err(Fault::OutOfMemory)
-            }
-            Err(MarkFault::Refused(refusal)) => Err(Fault::Refused(refusal)),
-            Err(MarkFault::OutOfMemory) => {
-                self.has_failed = true;
-                Err(Fault::OutOfMemory)
-            }
-        }
-    }
-
-    // Runs an operation on an object, and joins its contribution.
-    fn operate(
-        &mut self,
-        o: ObjectId,
-        op: &C::LocalOp,
-        reading: Option<ObjectId>,
-    ) -> Result<(), OutOfMemory>
-        requires known { o.0 < length self.old.values.items }
-        requires readable { IsReadable (length self.old.values.items) o.0 reading }
-        ensures state { OnOk result (state_of self.new.values.items self.new.total ≡ operated
-            (meaning C.local_step C.local_own C.LocalRed.local_unit_value
-            C.LocalRed.local_join_of) (state_of self.old.values.items self.old.total)
-            o.0 op.now (value_read self.old.values.items reading)) }
-        ensures count { length self.new.values.items ≡ length self.old.values.items }
-        ensures marks { self.new.marks ≡ self.old.marks }
-        ensures logs { self.new.logs.items ≡ self.old.logs.items }
-        ensures usable { self.new.has_failed ≡ self.old.has_failed }
-    {
-        operate(self.alloc, &mut self.values, &mut self.total, o, op, reading)
-    }
-
-    // The value of an object that was made.
-    fn value(&self, o: ObjectId) -> &C
-        requires { o.0 < length self.now.values.items }
-        ensures { slice_get self.now.values.items o.0 ≡ Some result.now }
-    {
-        &self.values[o.0 as usize]
     }
 }
 
@@ -131,11 +75,31 @@ impl<C: Class> Runtime<C> for Plain<C> {
     ghost seen = { plain_view };
 
     fn do_make(&mut self, value: C, by: By) -> Result<ObjectId, Fault> {
-        self.add(value, Some(by))
+        if self.has_failed {
+            return Err(Fault::OutOfMemory);
+        }
+        match add(&mut self.values, &mut self.marks, value, Some(by)) {
+            Ok(object) => Ok(object),
+            Err(MarkFault::Refused(refusal)) => Err(Fault::Refused(refusal)),
+            Err(MarkFault::OutOfMemory) => {
+                self.has_failed = true;
+                Err(Fault::OutOfMemory)
+            }
+        }
     }
 
     fn do_make_fixed(&mut self, value: C) -> Result<ObjectId, Fault> {
-        self.add(value, None)
+        if self.has_failed {
+            return Err(Fault::OutOfMemory);
+        }
+        match add(&mut self.values, &mut self.marks, value, None) {
+            Ok(object) => Ok(object),
+            Err(MarkFault::Refused(refusal)) => Err(Fault::Refused(refusal)),
+            Err(MarkFault::OutOfMemory) => {
+                self.has_failed = true;
+                Err(Fault::OutOfMemory)
+            }
+        }
     }
 
     fn do_begin(&mut self) -> Result<(), Fault> {
@@ -171,7 +135,7 @@ impl<C: Class> Runtime<C> for Plain<C> {
             set,
             object: o,
         };
-        let Ok(()) = self.operate(o, &op, reading) else {
+        let Ok(()) = operate(self.alloc, &mut self.values, &mut self.total, o, &op, reading) else {
             self.has_failed = true;
             return Err(Fault::OutOfMemory);
         };
@@ -195,7 +159,7 @@ impl<C: Class> Runtime<C> for Plain<C> {
         if let Err(refusal) = self.marks.check_write(o) {
             return Err(Fault::Refused(refusal));
         }
-        let Ok(()) = self.operate(o, &op, None) else {
+        let Ok(()) = operate(self.alloc, &mut self.values, &mut self.total, o, &op, None) else {
             self.has_failed = true;
             return Err(Fault::OutOfMemory);
         };
@@ -211,7 +175,7 @@ impl<C: Class> Runtime<C> for Plain<C> {
             return Err(Fault::Refused(refusal));
         }
         self.marks.note_call();
-        Ok(self.value(o))
+        Ok(value_of(&self.values, o))
     }
 
     fn do_end<R: Threads + Wait + Copy, S: Starter<Vec<Idle>, Result<Vec<Idle>, AllocError>>>(
@@ -264,3 +228,5 @@ impl<C: Class> Runtime<C> for Plain<C> {
         })
     }
 }
+
+impl<C: Class> Delegation<C> for Plain<C> {}

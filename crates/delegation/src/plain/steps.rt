@@ -1,18 +1,70 @@
-// One operation, and one run in the log. A method of an impl may call these: their bounds have no
-// `Send`.
-ghost use Rattle.std.specs.Prelude.{◌≡◌, ◌<◌, OnOk, length};
+// Steps on what the undelegated runtime keeps. A method of an impl may call these: their bounds
+// have no `Send`.
+ghost use Rattle.std.specs.Prelude.{◌≡◌, ◌<◌, [], ◌∷◌, ◌++◌, Some, OnOk, IfOk, length, slice_get};
+ghost use Rattle.partition_check.specs.Answers.{AnswersMake, making};
+ghost use Rattle.partition_check.specs.Judged.{judged};
+ghost use Rattle.partition_check.specs.MarkedAfter.{marked_after};
 ghost use Rattle.delegation.specs.Meanings.{meaning};
 ghost use Rattle.delegation.specs.Sequential.{operated, value_read};
 ghost use Rattle.delegation.specs.Answers.{with_run};
-ghost use Rattle.delegation.specs.PlainParts.{state_of, IsReadable};
+ghost use Rattle.delegation.specs.PlainParts.{state_of, IsReadable, IsUnchanged};
 
 use class_laws::{LocalClass, no_reading};
+use execution_definitions::By;
+use partition_check::{MarkFault, Marks};
 use ss_base::{LaneLog, ObjectId, OutOfMemory, Run};
 use std::alloc::Global;
+
+/// Makes an object with this value; a read-only one where no serializer is asked for.
+pub fn add<C: Drop>(
+    values: &mut Vec<C>,
+    marks: &mut Marks,
+    value: C,
+    by: Option<By>,
+) -> Result<ObjectId, MarkFault>
+    ensures judged { AnswersMake result (judged marks.old (making by)) }
+    ensures number { IfOk result (λ object. object.0 ≡ length marks.old.objects) }
+    ensures marks { OnOk result (marks.new ≡ marked_after marks.old (making by)) }
+    ensures values { OnOk result (values.new.items ≡ values.old.items ++ value ∷ []) }
+    ensures unchanged { IsUnchanged result marks.old marks.new values.old.items values.new.items }
+{
+    let object = marks.new_object(by)?;
+    let Ok(()) = values.push(value) else {
+        return Err(MarkFault::OutOfMemory);
+    };
+    Ok(object)
+}
+
+/// The value of an object that was made.
+pub fn value_of<C>(values: &Vec<C>, o: ObjectId) -> &C
+    requires { o.0 < length values.now.items }
+    ensures { slice_get values.now.items o.0 ≡ Some result.now }
+{
+    &values[o.0 as usize]
+}
 
 /// Runs an operation on the value of `o`, which may read the value of another object, and joins its
 /// contribution.
 pub fn operate<C: LocalClass>(
+    alloc: Global,
+    values: &mut Vec<C>,
+    total: &mut C::LocalRed,
+    o: ObjectId,
+    op: &C::LocalOp,
+    reading: Option<ObjectId>,
+) -> Result<(), OutOfMemory>
+    requires known { o.0 < length values.old.items }
+    requires readable { IsReadable (length values.old.items) o.0 reading }
+    ensures state { OnOk result (state_of values.new.items total.new ≡ operated
+        (meaning C.local_step C.local_own C.LocalRed.local_unit_value C.LocalRed.local_join_of)
+        (state_of values.old.items total.old) o.0 op.now (value_read values.old.items reading)) }
+    ensures count { length values.new.items ≡ length values.old.items }
+{
+    operate_among(alloc, values, total, o, op, reading)
+}
+
+// The same on a slice, which can be split between the two objects.
+fn operate_among<C: LocalClass>(
     alloc: Global,
     values: &mut [C],
     total: &mut C::LocalRed,

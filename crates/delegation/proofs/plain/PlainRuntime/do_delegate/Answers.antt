@@ -6,10 +6,10 @@ use Rattle.delegation.proofs.plain.PlainRuntime.do_delegate.Goals as goal
 
 pub invariant_of-self-2 : goal.invariant_of-self-2
 invariant_of-self-2 g c =
-    let kept = c.operate.new.self.kept in
+    let kept = c.args.self.now.kept in
     record {
       kept = record {
-        marked = λ usable. kept.marked usable
+        marked = λ usable. c.in-Ok-operate.ensures.count ∙ kept.marked usable
             ∙ sym (ap (λ marks. length marks.objects) c.note_delegate.ensures.after
             ∙ length-with_reader_at _ _ ∙ length-changed_at _ _ _);
         one_log = c.in-Ok-log_run.ensures.length ∙ kept.one_log;
@@ -25,7 +25,7 @@ returns g c =
       state = c.in-Ok-operate.ensures.state;
       marks = search rules;
       sent = search rules;
-      logs = rw (logged, c.in-Ok-operate.ensures.logs) (fronts-with_run 0 _ _);
+      logs = rw logged (fronts-with_run 0 _ _);
       done = done_same _ _;
       reclaimed = tt;
       was_usable = search rules;
