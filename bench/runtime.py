@@ -1,5 +1,5 @@
 #!/usr/bin/env python3
-"""Times the crates partition_check and class_laws beside plain Rust that does the same, in turns on one machine.
+"""Times the crates partition_check, delegation and class_laws beside plain Rust that does the same, in turns on one machine.
 
     runtime.py
 
@@ -18,7 +18,7 @@ from measure import HERE, cargo_program
 
 SOURCES = pathlib.Path(HERE) / "runtime"
 CRATE = "runtime_bench"
-DEPENDENCIES = "ss_base execution_definitions class_laws partition_check"
+DEPENDENCIES = "ss_base execution_definitions class_laws partition_check delegation runtime_tests"
 
 # What is shown: a part's text, its name in either program, and its unit with the nanoseconds that it has.
 NS = ("ns", 1)
@@ -29,6 +29,7 @@ ROWS = [
     ("the same, each reading an object", "delegate_reading", "delegate_reading", NS),
     ("an empty epoch of 65,536 objects", "epoch_many_objects", "epoch_many_objects", NS),
     ("an empty epoch of 16 objects", "epoch_few_objects", "epoch_few_objects", NS),
+    ("a delegated addition / one in a Vec", "delegate_plain", "add_in_vec", NS),
     ("add of a new key / HashMap", "add_new", "hash_add_new", NS),
     ("add of a new key / BTreeMap", "add_new", "tree_add_new", NS),
     ("add of a known key / HashMap", "add_again", "hash_add_again", NS),

@@ -2,6 +2,7 @@
 //! `part name times nanoseconds`, and of each checksum `checksum name value`.
 
 mod counts;
+mod delegation;
 mod marks;
 
 use std::time::Instant;
@@ -13,5 +14,6 @@ fn part(name: &str, times: u32, start: Instant) {
 
 fn main() {
     marks::measure();
+    delegation::measure();
     counts::measure();
 }
