@@ -1,9 +1,8 @@
 -- An answered call goes on from each list that the runtime was after.
-use Rattle.std.proofs.Common.{◌≡◌, ℕ, Option, Some, None, List, [], ◌∷◌, ◌++◌, map, refl, sym, ap, ◌∙◌, subst}
-use Rattle.std.specs.Prelude.{Result, Ok, Err, fold}
+use Rattle.std.proofs.Common.{◌≡◌, List, [], ◌∷◌, ◌++◌, refl, sym, ap, ◌∙◌, subst}
+use Rattle.std.specs.Prelude.{Result, Ok, Err}
 use Rattle.std.proofs.lemmas.List.{map-append}
 use Rattle.std.proofs.lemmas.List.Sums.{fold-append}
-use Rattle.execution_definitions.specs.declared.refusal.Refusal.{Refusal}
 use Rattle.execution_definitions.specs.Refusals.{breaks}
 use Rattle.execution_definitions.specs.Runs.{run_of}
 use Rattle.partition_check.specs.Marked.{mark_at}
@@ -19,7 +18,7 @@ use Rattle.delegation.specs.declared.call.Fault.TheVariants.{Refused, OutOfMemor
 use Rattle.delegation.specs.Meanings.{Meaning, shape_of, shapes_of}
 use Rattle.delegation.specs.Sequential.{initial_state, state_after, sequential_state}
 use Rattle.delegation.specs.Runtimes.{RuntimeView, IsAfter, sent_to_lanes}
-use Rattle.delegation.specs.Answers.{run_now, sent_with, sent_after, Accepts, Answered, Follows}
+use Rattle.delegation.specs.Answers.{run_now, sent_with, Accepts, Answered, Follows}
 use Rattle.delegation.proofs.SentLemmas.{sent_to_lanes-push}
 
 module _ {C O R : Type 0} (m : Meaning C O R) where
@@ -42,7 +41,7 @@ module _ {C O R : Type 0} (m : Meaning C O R) where
         r.call_count,
         r.epochs,
         set_marked-represents runtime.marks (shapes_of m calls) r object.0 (m.own op)
-        (mark_at runtime.marks object.0) refl,
+            (mark_at runtime.marks object.0) refl,
       ) refl
   run_now-represents runtime calls r (Make value by) = refl
   run_now-represents runtime calls r (MakeFixed value) = refl
@@ -85,10 +84,12 @@ module _ {C O R : Type 0} (m : Meaning C O R) where
   pub follows : {T : Type 0} (to_reply : T → Reply C O R) (old new : RuntimeView C R)
       (call : Call C O R) (result : Result T Fault) →
       Answered m to_reply old new call result → Follows m old new call result
-  follows to_reply old new call (Ok value) answered = λ calls at.
-      (sym (judged-after old new call calls at) ∙ answered.0.allowed,
-      accepted old new call calls at answered.0)
-  follows to_reply old new call (Err (Refused refusal)) answered = λ calls at.
-      (sym (judged-after old new call calls at) ∙ answered.why,
-      subst (λ runtime. IsAfter m runtime calls) (sym answered.unchanged) at)
+  follows to_reply old new call (Ok value) answered = λ calls at. (
+    sym (judged-after old new call calls at) ∙ answered.0.allowed,
+    accepted old new call calls at answered.0,
+  )
+  follows to_reply old new call (Err (Refused refusal)) answered = λ calls at. (
+    sym (judged-after old new call calls at) ∙ answered.why,
+    subst (λ runtime. IsAfter m runtime calls) (sym answered.unchanged) at,
+  )
   follows to_reply old new call (Err OutOfMemory) answered = λ calls at. tt

@@ -33,9 +33,11 @@ front-with_run : (lane : ℕ) (run : Run) (lists : List (List Run)) (at : ℕ)
     (front whole : List Run) → slice_get lists at ≡ Some front →
     slice_get (with_run lane run lists) at ≡ Some whole → IsFront front whole
 front-with_run lane run [] at front whole is_front is_whole = absurd cc
-front-with_run zero run (runs ∷ lists) zero front whole is_front is_whole =
-    (run ∷ [], sym (same_Some _ _ is_whole)
-    ∙ ap (λ first. first ++ run ∷ []) (same_Some _ _ is_front))
+front-with_run zero run (runs ∷ lists) zero front whole is_front is_whole = (
+  run ∷ [],
+  sym (same_Some _ _ is_whole)
+      ∙ ap (λ first. first ++ run ∷ []) (same_Some _ _ is_front),
+)
 front-with_run zero run (runs ∷ lists) (suc at) front whole is_front is_whole =
     front_same front whole (sym is_front ∙ is_whole)
 front-with_run (suc lane) run (runs ∷ lists) zero front whole is_front is_whole =

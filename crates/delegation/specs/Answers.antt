@@ -17,7 +17,7 @@ use Rattle.delegation.specs.declared.call.Reply.{Reply}
 use Rattle.delegation.specs.declared.call.Fault.{Fault}
 use Rattle.delegation.specs.declared.call.Fault.TheVariants.{Refused, OutOfMemory}
 use Rattle.delegation.specs.Meanings.{Meaning, shape_of, shapes_of}
-use Rattle.delegation.specs.Sequential.{State, call_no, state_after, reply_of}
+use Rattle.delegation.specs.Sequential.{call_no, state_after, reply_of}
 use Rattle.delegation.specs.Runtimes.{RuntimeView, IsAfter, AreFronts, HasDone}
 
 -- the lists with one run more for a lane

@@ -3,7 +3,6 @@
 -- Epochs, sets and refusals look at the shape of a call alone, which leaves values and operations
 -- out.
 use Rattle.std.specs.Prelude.{ℕ, Option, List, map}
-use Rattle.ss_base.specs.declared.ids.ObjectId.{ObjectId}
 use Rattle.execution_definitions.specs.Shapes as shape
 use Rattle.partition_check.specs.Answers.{number_read}
 use Rattle.delegation.specs.declared.call.Call.{Call}

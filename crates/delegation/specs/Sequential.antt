@@ -8,7 +8,7 @@ use Rattle.ss_base.specs.declared.ids.ObjectId.{ObjectId}
 use Rattle.ss_base.specs.declared.ids.CallNo.{CallNo}
 use Rattle.execution_definitions.specs.Refusals.{object_id}
 use Rattle.delegation.specs.declared.call.Call.{Call}
-use Rattle.delegation.specs.declared.call.Call.TheVariants.{Make, MakeFixed, Begin, Delegate, Write, Get, End, Total}
+use Rattle.delegation.specs.declared.call.Call.TheVariants.{Make, MakeFixed, Delegate, Write, Get, Total}
 use Rattle.delegation.specs.declared.call.Reply.{Reply}
 use Rattle.delegation.specs.declared.call.Reply.TheVariants as reply
 use Rattle.delegation.specs.Meanings.{Meaning}

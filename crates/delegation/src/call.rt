@@ -11,9 +11,14 @@ use ss_base::{CallNo, ObjectId, OutOfMemory};
 #[derive(Drop)]
 pub enum Call<C: Class> {
     /// `Delegation::make`.
-    Make { value: C, by: By },
+    Make {
+        value: C,
+        by: By,
+    },
     /// `Delegation::make_fixed`.
-    MakeFixed { value: C },
+    MakeFixed {
+        value: C,
+    },
     /// `Delegation::begin`.
     Begin,
     /// `Delegation::delegate`.
@@ -23,9 +28,14 @@ pub enum Call<C: Class> {
         reading: Option<ObjectId>,
     },
     /// `Delegation::call`.
-    Write { object: ObjectId, op: C::Op },
+    Write {
+        object: ObjectId,
+        op: C::Op,
+    },
     /// `Delegation::get`.
-    Get { object: ObjectId },
+    Get {
+        object: ObjectId,
+    },
     /// `Delegation::end`.
     End,
     /// `Delegation::total`.

@@ -135,7 +135,14 @@ impl<C: Class> Runtime<C> for Plain<C> {
             set,
             object: o,
         };
-        let Ok(()) = operate(self.alloc, &mut self.values, &mut self.total, o, &op, reading) else {
+        let Ok(()) = operate(
+            self.alloc,
+            &mut self.values,
+            &mut self.total,
+            o,
+            &op,
+            reading,
+        ) else {
             self.has_failed = true;
             return Err(Fault::OutOfMemory);
         };

@@ -101,17 +101,16 @@ pub fn run_calls<C: Class, D: Delegation<C>, R: Threads + Wait + Copy + Send + S
     for call in calls {
         match make_call(rt, alloc, d, call) {
             Ok(reply) => replies.push(reply)?,
-            Err(Fault::Refused(refusal)) => {
-                return Ok(Ran {
-                    replies,
-                    stopped: Some(refusal),
-                });
-            }
+            Err(Fault::Refused(refusal)) => return Ok(answered(replies, Some(refusal))),
             Err(Fault::OutOfMemory) => return Err(OutOfMemory),
         }
     }
-    Ok(Ran {
-        replies,
-        stopped: None,
-    })
+    Ok(answered(replies, None))
+}
+
+fn answered<C: Class>(replies: Vec<Reply<C>>, stopped: Option<Refusal>) -> Ran<C>
+    ensures replies { result.replies.items ≡ replies.items }
+    ensures stopped { result.stopped ≡ stopped }
+{
+    Ran { replies, stopped }
 }

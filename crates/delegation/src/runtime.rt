@@ -99,11 +99,7 @@ pub trait Runtime<C: Class>: Sized {
     fn do_end<
         R: Threads + Wait + Copy,
         S: Starter<Vec<Self::Task>, Result<Vec<Self::Task>, AllocError>>,
-    >(
-        &mut self,
-        rt: &R,
-        starter: &S,
-    ) -> Result<(), Fault>
+    >(&mut self, rt: &R, starter: &S) -> Result<(), Fault>
         requires can { (tasks : _) → S.can starter.now tasks }
         requires means { (tasks : _) (answer : _) → S.gives starter.now tasks answer →
             IfOk answer (λ done. EachGives Self.Task.gives tasks.items done.items) }
@@ -127,11 +123,7 @@ pub trait Runtime<C: Class>: Sized {
     fn do_finish<
         R: Threads + Wait + Copy,
         S: Starter<Vec<Self::Task>, Result<Vec<Self::Task>, AllocError>>,
-    >(
-        self,
-        rt: &R,
-        starter: &S,
-    ) -> Result<Finished<C>, OutOfMemory>
+    >(self, rt: &R, starter: &S) -> Result<Finished<C>, OutOfMemory>
         requires can { (tasks : _) → S.can starter.now tasks }
         requires means { (tasks : _) (answer : _) → S.gives starter.now tasks answer →
             IfOk answer (λ done. EachGives Self.Task.gives tasks.items done.items) }

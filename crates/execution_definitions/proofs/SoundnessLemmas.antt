@@ -2,7 +2,7 @@
 use Rattle.std.proofs.Common.{◌≡◌, ℕ, Option, Some, None, List, [], ◌∷◌, ◌++◌, length, refl, subst, append_assoc, append-nil}
 use Rattle.execution_definitions.specs.declared.refusal.Refusal.{Refusal}
 use Rattle.execution_definitions.specs.Shapes.{Shape}
-use Rattle.execution_definitions.specs.Refusals.{breaks, first_of}
+use Rattle.execution_definitions.specs.Refusals.{breaks}
 use Rattle.execution_definitions.specs.Soundness.{IsSound, first_break, first_break_after, first_refusal, first_refusal_after, place_or}
 
 -- what follows where neither a place nor a later one is there

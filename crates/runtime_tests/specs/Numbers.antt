@@ -3,7 +3,7 @@ use Rattle.std.specs.Prelude.{ℕ, ◌+◌, ◌*◌, ◌%◌, ◌^◌, Option, S
 use Rattle.class_laws.specs.declared.numbers.WrapSum.{WrapSum}
 use Rattle.runtime_tests.specs.declared.number.Number.{Number}
 use Rattle.runtime_tests.specs.declared.number.Act.{Act}
-use Rattle.runtime_tests.specs.declared.number.Act.TheVariants.{Add, Mul, Set, Give, Mix, Fail}
+use Rattle.runtime_tests.specs.declared.number.Act.TheVariants.{Add, Mul, Set, Give, Mix}
 use Rattle.runtime_tests.specs.declared.number.Op.{Op}
 
 -- the number that is read, or 0

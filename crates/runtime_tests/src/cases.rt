@@ -2,10 +2,9 @@
 
 use crate::number::Act;
 use crate::number::Act::*;
-use execution_definitions::{By, Refusal};
-
 use Answer::*;
 use Step::*;
+use execution_definitions::{By, Refusal};
 
 /// A call, with plain numbers for objects and sets. A delegation has an act, the set that it names
 /// and the object that it reads.

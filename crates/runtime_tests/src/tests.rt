@@ -107,7 +107,12 @@ fn passes<D: Delegation<Number>, R: Threads + Wait + Abort + Copy + Send + Sync 
     case: &Case,
 ) {
     for (place, (step, wanted)) in case.calls.iter().enumerate() {
-        assert_eq!(rt; answer(rt, &mut d, *step), *wanted, "{}, call {place}", case.name);
+        assert_eq!(rt;
+            answer(rt, &mut d, *step),
+            *wanted,
+            "{}, call {place}",
+            case.name
+        );
     }
     let Ok(end) = d.finish(rt) else {
         panic!(rt; "{}: no memory", case.name);
@@ -118,19 +123,23 @@ fn passes<D: Delegation<Number>, R: Threads + Wait + Abort + Copy + Send + Sync 
     }
     assert_eq!(rt; end.total.0, case.total, "{}", case.name);
     for (lane, log) in end.logs.iter().enumerate() {
-        assert!(rt; is_log_of(log, case, lane, delegates), "{}, lane {lane}", case.name);
+        assert!(rt;
+            is_log_of(log, case, lane, delegates),
+            "{}, lane {lane}",
+            case.name
+        );
     }
 }
 
 // An operation finds no memory: by the epoch's end the runtime says so, and from then on.
-fn fails_for_good<
-    D: Delegation<Number>,
-    R: Threads + Wait + Abort + Copy + Send + Sync + 'static,
->(
+fn fails_for_good<D: Delegation<Number>, R: Threads + Wait + Abort + Copy + Send + Sync + 'static>(
     rt: &R,
     mut d: D,
 ) {
-    assert_eq!(rt; answer(rt, &mut d, Step::Make(5, By::Object)), Answer::Made(0));
+    assert_eq!(rt;
+        answer(rt, &mut d, Step::Make(5, By::Object)),
+        Answer::Made(0)
+    );
     assert_eq!(rt; answer(rt, &mut d, Step::Begin), Answer::Done);
     let _ = answer(rt, &mut d, Step::Delegate(0, Act::Fail, 0, None));
     for step in [
@@ -150,10 +159,7 @@ fn fails_for_good<
 }
 
 // A list of calls is made up to the first that is refused.
-fn runs_a_list<
-    D: Delegation<Number>,
-    R: Threads + Wait + Abort + Copy + Send + Sync + 'static,
->(
+fn runs_a_list<D: Delegation<Number>, R: Threads + Wait + Abort + Copy + Send + Sync + 'static>(
     rt: &R,
     alloc: Global,
     d: &mut D,

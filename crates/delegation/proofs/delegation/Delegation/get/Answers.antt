@@ -5,9 +5,11 @@ use Rattle.delegation.proofs.delegation.Delegation.get.Goals as goal
 
 pub returns : goal.returns
 returns g c =
-    let answered = c.do_get.follows.holds-at-none in
-    (
-      (refl, (λ w. tt),
-      (answered, follows _ (λ lent. reply.Value lent.now) _ _ _ _ answered)),
+    let answered = c.do_get.follows.holds-at-none in (
+      (
+        refl,
+        (λ w. tt),
+        (answered, follows _ (λ lent. reply.Value lent.now) _ _ _ _ answered),
+      ),
       record { after = tt; value = c.do_get.ensures.value },
     )

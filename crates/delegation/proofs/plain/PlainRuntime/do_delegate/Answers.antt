@@ -1,5 +1,4 @@
 use Rattle.std.proofs.Common.{rules, length, refl, sym, ap, ◌∙◌}
-use Rattle.partition_check.specs.MarkedAfter.{changed_at, with_set}
 use Rattle.partition_check.proofs.DelegateLemmas.{length-changed_at, length-with_reader_at}
 use Rattle.delegation.proofs.FrontLemmas.{fronts-with_run, done_same}
 use Rattle.delegation.proofs.plain.PlainRuntime.do_delegate.Goals as goal
@@ -18,16 +17,18 @@ invariant_of-self-2 g c =
 
 pub returns : goal.returns
 returns g c =
-    let logged = c.in-Ok-log_run.ensures.logged in
-    (record {
-      allowed = search rules;
-      delegates = refl;
-      state = c.in-Ok-operate.ensures.state;
-      marks = search rules;
-      sent = search rules;
-      logs = rw logged (fronts-with_run 0 _ _);
-      done = done_same _ _;
-      reclaimed = tt;
-      was_usable = search rules;
-      usable = search rules;
-    }, search rules)
+    let logged = c.in-Ok-log_run.ensures.logged in (
+      record {
+        allowed = search rules;
+        delegates = refl;
+        state = c.in-Ok-operate.ensures.state;
+        marks = search rules;
+        sent = search rules;
+        logs = rw logged (fronts-with_run 0 _ _);
+        done = done_same _ _;
+        reclaimed = tt;
+        was_usable = search rules;
+        usable = search rules;
+      },
+      search rules,
+    )
