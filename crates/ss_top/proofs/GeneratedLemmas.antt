@@ -1,6 +1,6 @@
 -- Generated words and documents, one more.
 use Rattle.std.proofs.Common.{◌≡◌, ℕ, zero, suc, ◌+◌, ◌*◌, ◌<◌, ◌≤◌, List, [], ◌∷◌, ◌++◌, map}
-use Rattle.std.proofs.Common.{length, take, drop, refl, sym, ap, ap₂, ◌∙◌, arith, add-one, append-nil}
+use Rattle.std.proofs.Common.{length, drop, sym, ap, ap₂, ◌∙◌, arith, add-one, append-nil}
 use Rattle.std.proofs.Common.{append_assoc, length-append, min, false, cond, nat_lt, Some, None}
 use Rattle.std.specs.Prelude.{sum_by}
 use Rattle.std.specs.List.{flat_map, range_with_len}
