@@ -15,8 +15,8 @@ use std::alloc::Global;
 use std::collections::BTreeSet;
 use std::marker::Model;
 
-/// The terms of a stop list. Contracts see them as a list, each once, in the order of their bytes, so
-/// that stop lists with the same terms are equal.
+/// The terms of a stop list. Contracts see them as a list, each once, in the order of their bytes,
+/// so that stop lists with the same terms are equal.
 ///
 /// They are ordered, so no choice of words makes a look-up slow.
 #[derive(Drop)]
@@ -84,8 +84,8 @@ impl StopSet {
 
     // Puts in a term. A key is made for a new term only.
     fn add(&mut self, alloc: Global, term: &str) -> Result<(), OutOfMemory>
-        ensures terms { OnOk result ((q : List ℕ) →
-            list_any (bytes_eq q) self.new ≡ (bytes_eq q term.now || list_any (bytes_eq q) self.old)) }
+        ensures terms { OnOk result ((q : List ℕ) → list_any (bytes_eq q) self.new
+            ≡ (bytes_eq q term.now || list_any (bytes_eq q) self.old)) }
         ensures rises { OnOk result (IsStrictlySortedBy (slice_cmp nat_cmp) self.new) }
     {
         if !self.terms.contains(term) {

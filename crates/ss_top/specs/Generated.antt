@@ -1,9 +1,9 @@
 -- Which documents are generated, and which limit do they meet first?
 --
--- A generator goes from state to state, a word at a time. Its state goes on from one document to the
--- next.
-use Rattle.std.specs.Prelude.{ℕ, ◌+◌, ◌*◌, ◌/◌, ◌%◌, ◌^◌, zero, suc, nat_lt, if◌then◌else◌, List, ◌++◌}
-use Rattle.std.specs.Prelude.{map, codes, decimal, Some}
+-- A generator goes from state to state, a word at a time. Its state goes on from one document to
+-- the next.
+use Rattle.std.specs.Prelude.{ℕ, ◌+◌, ◌*◌, ◌/◌, ◌%◌, ◌^◌, zero, suc, nat_lt, List, ◌++◌}
+use Rattle.std.specs.Prelude.{if◌then◌else◌, map, codes, decimal, Some}
 use Rattle.std.specs.declared.option.Option.{Option}
 use Rattle.std.specs.List.{flat_map, range_with_len}
 use Rattle.ss_top.specs.declared.status.LimitHit.{LimitHit}

@@ -1,7 +1,8 @@
 -- Which limit do documents meet first, where they are read byte by byte, one behind the other?
 --
--- A document is over its own limit at its byte number 8,388,609, and the documents up to it are over
--- theirs at the byte that passes 67,108,864. Where both come at one byte, the document's own counts.
+-- A document is over its own limit at its byte number 8,388,609, and the documents up to it are
+-- over theirs at the byte that passes 67,108,864. Where both come at one byte, the document's own
+-- counts.
 use Rattle.std.specs.Prelude.{ℕ, ◌+◌, nat_lt, nat_le, ◌&&◌, if◌then◌else◌, List, [], ◌∷◌, length}
 use Rattle.std.specs.Prelude.{None, Some}
 use Rattle.std.specs.declared.option.Option.{Option}
@@ -20,11 +21,11 @@ document_limit = 8388608
 abbrev pub all_documents_limit : ℕ
 all_documents_limit = 67108864
 
--- the limit that a document passes, of this number and with so many bytes left for it of those for all
+-- the limit that a document of this number passes, with so many bytes left of those for all
 abbrev pub limit_with : ℕ → ℕ → LimitHit
 limit_with i left = if nat_le document_limit left then Document i else AllDocuments i
 
--- the first limit that documents meet, of which the first has this number and `before` bytes before it
+-- the first limit that documents meet, of which the first has this number, behind so many bytes
 abbrev pub first_limit_from : ℕ → ℕ → List (List ℕ) → Option LimitHit
 first_limit_from before i [] = None
 first_limit_from before i (d ∷ ds) =

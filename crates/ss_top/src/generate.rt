@@ -1,9 +1,9 @@
 // Documents that are generated.
-ghost use Rattle.std.specs.Prelude.{◌≡◌, ◌+◌, ◌^◌, ◌<◌, ◌≤◌, ◌++◌, map, length, min, None, Some, vec_len};
-ghost use Rattle.std.specs.Prelude.{IfOk, OnOk, MatchBool, MatchOption};
+ghost use Rattle.std.specs.Prelude.{◌≡◌, ◌+◌, ◌^◌, ◌<◌, ◌≤◌, ◌++◌, map, length, None, Some};
+ghost use Rattle.std.specs.Prelude.{vec_len, IfOk, OnOk, MatchBool, MatchOption};
 ghost use Rattle.ss_top.specs.Generated.{state_after, state_at, generated_word, generated_document};
 ghost use Rattle.ss_top.specs.Generated.{generated_documents, generated_limit};
-ghost use Rattle.ss_top.specs.Limits.{names_limit, document_limit, limit_with};
+ghost use Rattle.ss_top.specs.Limits.{names_limit, limit_with};
 ghost use Rattle.ss_top.specs.declared.generate.GenFault.TheVariants as fault;
 
 use crate::LimitHit;
@@ -84,8 +84,7 @@ fn gen_document(
     most: usize,
     state: &mut u32,
 ) -> Result<Option<Vec<u8>>, OutOfMemory>
-    requires state { state.old < 2 ^ 31 }
-    requires most { most ≤ document_limit }
+    requires { state.old < 2 ^ 31 }
     ensures { IfOk result (λ made. MatchOption made
         (most < length (generated_document words state.old))
         (λ document. (document.items ≡ generated_document words state.old)
