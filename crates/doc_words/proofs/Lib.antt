@@ -1,3 +1,4 @@
 pub mod FoldLemmas
 pub mod LossyLemmas
 pub mod NumberedLemmas
+pub mod StopSetLemmas

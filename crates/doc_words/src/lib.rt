@@ -2,9 +2,11 @@
 #![tactic(auto)]
 
 mod fold;
+mod stop_set;
 mod terms;
 mod words;
 
+pub use stop_set::StopSet;
 pub use terms::{Terms, text_of};
 pub use words::{Word, words_of};
 

@@ -1,4 +1,4 @@
--- A strictly rising list that has the postings' terms is `terms_of` of them.
+-- A strictly rising list that has the same terms is `rising_terms` of them.
 --
 -- Both are read as finite maps to the one-element type. Two finite maps that find the same at each
 -- key are one map, and the keys of a map in order are one list.
@@ -18,7 +18,7 @@ use Rattle.std.specs.FinMap.Entries.{below_all}
 use Rattle.std.specs.Str.{bytes_eq}
 use Rattle.std.proofs.lemmas.Map.Text.{is_eq-slice_cmp}
 use Rattle.index_definitions.specs.Postings.{Posting}
-use Rattle.index_definitions.specs.Terms.{terms_of, HasTermsOf}
+use Rattle.index_definitions.specs.Terms.{rising_terms, terms_of, HasTermsOf}
 
 both_true : (a b : Bool) → T a → T b → T (a && b)
 both_true true true p q = tt
@@ -46,36 +46,47 @@ is_sorted-entries [] rising = tt
 is_sorted-entries (t ∷ ts) rising =
     both_true _ _ (below_all-entries t ts rising.0) (is_sorted-entries ts rising.1)
 
--- a key is found exactly where some element has it
+-- a term is found exactly where it is one of the entries
 find-any :
-    {X : Type 0} (key : X → List ℕ) (q : List ℕ) (xs : List X)
-    → find text_cmp q (map (λ x. (key x, tt {0})) xs)
-    ≡ cond (list_any (λ x. bytes_eq q (key x)) xs) (Some (tt {0})) None
-find-any key q [] = refl
-find-any key q (x ∷ xs) =
-    ap (λ b. cond b (Some tt) (find text_cmp q (map (λ y. (key y, tt {0})) xs)))
-    (is_eq-slice_cmp q (key x))
-    ∙ elim (bytes_eq q (key x)) as (λ b.
-    cond b (Some (tt {0})) (find text_cmp q (map (λ y. (key y, tt {0})) xs))
-    ≡ cond (b || list_any (λ y. bytes_eq q (key y)) xs) (Some (tt {0})) None)
-    [ true ↦ refl | false ↦ find-any key q xs ]
+    (q : List ℕ) (ts : List (List ℕ))
+    → find text_cmp q (map entry_of ts) ≡ cond (list_any (bytes_eq q) ts) (Some (tt {0})) None
+find-any q [] = refl
+find-any q (t ∷ ts) =
+    ap (λ b. cond b (Some tt) (find text_cmp q (map entry_of ts))) (is_eq-slice_cmp q t)
+    ∙ elim (bytes_eq q t) as (λ b.
+    cond b (Some (tt {0})) (find text_cmp q (map entry_of ts))
+    ≡ cond (b || list_any (bytes_eq q) ts) (Some (tt {0})) None)
+    [ true ↦ refl | false ↦ find-any q ts ]
 
 keys-entries : (ts : List (List ℕ)) → map (λ e. e.0) (map entry_of ts) ≡ ts
 keys-entries [] = refl
 keys-entries (t ∷ ts) = ap (λ us. t ∷ us) (keys-entries ts)
 
+-- a list that rises and has the terms of another is those terms, each once
+pub rising_terms-unique :
+    (all ts : List (List ℕ))
+    → IsStrictlySortedBy text_cmp ts
+    → ((q : List ℕ) → list_any (bytes_eq q) ts ≡ list_any (bytes_eq q) all)
+    → ts ≡ rising_terms all
+rising_terms-unique all ts rising members =
+    let order = is_sorted-entries ts rising in
+    let same :
+    from_sorted {R = text_cmp} (map entry_of ts) ≡ from_entries {R = text_cmp} (map entry_of all) =
+    same_map nat_list_cmp_total (slice_cmp-IsAntisymmetric nat_cmp-IsAntisymmetric) _ _ (λ q.
+    get-from_sorted text_cmp (map entry_of ts) q order ∙ find-any q ts
+    ∙ ap (λ b. cond b (Some (tt {0})) None) (members q)
+    ∙ sym (get-from_entries nat_list_cmp_total (map entry_of all) q ∙ find-any q all)) in
+    sym (keys-entries ts)
+    ∙ ap (map (λ e. e.0)) (sym (entries-from_sorted text_cmp (map entry_of ts) order)) ∙ ap keys same
+
+list_any-terms :
+    (q : List ℕ) (ps : List Posting)
+    → list_any (λ p. bytes_eq q p.term) ps ≡ list_any (bytes_eq q) (map (λ p. p.term) ps)
+list_any-terms q [] = refl
+list_any-terms q (p ∷ ps) = ap (λ b. bytes_eq q p.term || b) (list_any-terms q ps)
+
 pub terms_of-unique :
     (ps : List Posting) (ts : List (List ℕ))
     → IsStrictlySortedBy text_cmp ts → HasTermsOf ps ts → ts ≡ terms_of ps
 terms_of-unique ps ts rising members =
-    let order = is_sorted-entries ts rising in
-    let same :
-    from_sorted {R = text_cmp} (map entry_of ts)
-    ≡ from_entries {R = text_cmp} (map (λ p. (p.term, tt {0})) ps) =
-    same_map nat_list_cmp_total (slice_cmp-IsAntisymmetric nat_cmp-IsAntisymmetric) _ _ (λ q.
-    get-from_sorted text_cmp (map entry_of ts) q order ∙ find-any (λ t. t) q ts
-    ∙ ap (λ b. cond b (Some (tt {0})) None) (members q)
-    ∙ sym (get-from_entries nat_list_cmp_total (map (λ p. (p.term, tt {0})) ps) q
-    ∙ find-any (λ p. p.term) q ps)) in
-    sym (keys-entries ts)
-    ∙ ap (map (λ e. e.0)) (sym (entries-from_sorted text_cmp (map entry_of ts) order)) ∙ ap keys same
+    rising_terms-unique (map (λ p. p.term) ps) ts rising (λ q. members q ∙ list_any-terms q ps)

@@ -1,5 +1,4 @@
 pub mod GroupsLemmas
 pub mod OneDocumentLemmas
-pub mod PostingListsLemmas
 pub mod PrintingLemmas
 pub mod TextsLemmas

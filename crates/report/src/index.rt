@@ -1,6 +1,6 @@
 // An index as a list of terms, each with its postings.
 
-use crate::Postings;
+use postings::Postings;
 use ss_base::Text;
 use std::marker::Model;
 

@@ -3,12 +3,10 @@
 
 mod index;
 mod one_document;
-mod postings;
 mod print;
 
 pub use index::{Index, Term};
 pub use one_document::index_of_document;
-pub use postings::{Postings, PostingsIter};
 pub use print::{print_index, push_term};
 
 #[cfg(test)]

@@ -10,8 +10,9 @@ ghost use Rattle.index_definitions.specs.PostingLists.{ArePositions};
 ghost use Rattle.report.specs.Groups.{AddsWord};
 ghost use Rattle.report.specs.OneDocument.{entry_record, index_of_words, record_at};
 
-use crate::{Index, Postings, Term};
+use crate::{Index, Term};
 use doc_words::{Terms, text_of};
+use postings::Postings;
 use ss_base::{OutOfMemory, Text};
 use std::alloc::Global;
 use std::collections::BTreeMap;

@@ -1,5 +1,5 @@
 // What no clause says: that memory is found, and how a term is escaped.
-use crate::{Postings, index_of_document, print_index, push_term};
+use crate::{index_of_document, print_index, push_term};
 use std::test::Fail;
 
 #[test]
@@ -8,18 +8,6 @@ fn a_term_is_escaped(rt: HostRuntime) -> Result<(), Fail> {
     let mut text = Vec::new(alloc);
     push_term(alloc, &mut text, "a\\b ")?;
     assert_eq!(rt; text.as_slice(), b"a\\x5cb\\x20".as_slice());
-    Ok(())
-}
-
-#[test]
-fn postings_come_back_in_order(rt: HostRuntime) -> Result<(), Fail> {
-    let alloc = rt.alloc();
-    let mut postings = Postings::new(alloc);
-    postings.append(1, &[1, 3])?;
-    postings.append(4, &[2])?;
-    let pairs: Vec<(u32, u32)> = postings.iter().collect(alloc)?;
-    assert_eq!(rt; pairs.as_slice(), [(1, 1), (1, 3), (4, 2)].as_slice());
-    assert_eq!(rt; postings.documents(), 2);
     Ok(())
 }
 

@@ -8,15 +8,12 @@ use Rattle.ss_top.specs.declared.command.Command.{Command}
 use Rattle.ss_top.specs.declared.command.Command.TheVariants.{Index}
 use Rattle.ss_top.specs.declared.status.LimitHit.{LimitHit}
 use Rattle.ss_top.specs.declared.status.LimitHit.TheVariants.{Document}
+use Rattle.ss_top.specs.Limits.{document_limit}
 
 -- a limit that is passed, or a text to print
 pub data Answer : Type 0 where
   over_limit : LimitHit → Answer
   prints : List ℕ → Answer
-
--- the most bytes of a document
-abbrev pub document_limit : ℕ
-document_limit = 8388608
 
 -- the answer to `index` over one document
 abbrev pub index_answer : List ℕ → Answer

@@ -3,11 +3,14 @@
 
 mod command;
 mod commands;
+mod generate;
+mod limits;
 mod status;
 mod tell;
 mod top;
 
 pub use command::{Command, WordsFault, command_of};
+pub use generate::{GenFault, gen_documents};
 pub use status::{LimitHit, Status, Which};
 pub use tell::{tell_memory, tell_usage};
 pub use top::run;

@@ -2,7 +2,7 @@
 // like, and which calls of a shelf or a sink in memory fail.
 ghost use Rattle.std.specs.Prelude.{◌<◌};
 
-use crate::{LimitHit, Status, Which, run, tell_memory, tell_usage};
+use crate::{GenFault, LimitHit, Status, Which, gen_documents, run, tell_memory, tell_usage};
 use ss_base::{MemShelf, MemSink, Text};
 use std::alloc::Global;
 use std::test::Fail;
@@ -186,5 +186,65 @@ fn the_two_texts_of_the_program_itself(rt: HostRuntime) -> Result<(), Fail> {
     let mut err = sink(alloc)?;
     tell_usage(&mut err);
     assert_eq!(rt; err.bytes(), USAGE.as_bytes());
+    Ok(())
+}
+
+#[test]
+fn documents_are_generated(rt: HostRuntime) -> Result<(), Fail> {
+    let alloc = rt.alloc();
+    let made = gen_documents(alloc, 1, 3, 0)?;
+    assert_eq!(rt; made.len(), 1);
+    assert_eq!(rt; made[0].as_slice(), b"w48 w830 w967 ".as_slice());
+
+    // The state goes on from one document to the next.
+    let made = gen_documents(alloc, 3, 1, 0)?;
+    assert_eq!(rt; made.len(), 3);
+    assert_eq!(rt; made[0].as_slice(), b"w48 ".as_slice());
+    assert_eq!(rt; made[1].as_slice(), b"w830 ".as_slice());
+    assert_eq!(rt; made[2].as_slice(), b"w967 ".as_slice());
+
+    let made = gen_documents(alloc, 1, 2, 1)?;
+    assert_eq!(rt; made.len(), 1);
+    assert!(rt; made[0].as_slice().starts_with(b"w654 "));
+    Ok(())
+}
+
+#[test]
+fn documents_that_just_fit_are_generated(rt: HostRuntime) -> Result<(), Fail> {
+    let alloc = rt.alloc();
+    // How many documents of how many words, behind which seed, and all their bytes: these were
+    // counted by another program.
+    let rows = [
+        (65536u32, 0u32, 0u32, 0usize),
+        (1, 1715420, 0, 8388608),
+        (16, 857738, 1223930612, 67108864),
+    ];
+    for (docs, words, seed, bytes) in rows {
+        let made = gen_documents(alloc, docs, words, seed)?;
+        assert_eq!(rt; made.len(), docs as usize);
+        let mut count = 0usize;
+        for document in &made {
+            count = count.saturating_add(document.len());
+        }
+        assert_eq!(rt; count, bytes, "at {docs}");
+    }
+    Ok(())
+}
+
+#[test]
+fn generated_documents_end_at_the_first_limit(rt: HostRuntime) -> Result<(), Fail> {
+    let alloc = rt.alloc();
+    let rows = [
+        (65537u32, 0u32, 0u32, LimitHit::Names(65537)),
+        (1, 1715421, 0, LimitHit::Document(1)),
+        (1, 8388608, 0, LimitHit::Document(1)),
+        (65536, u32::MAX, 0, LimitHit::Document(1)),
+        (17, 857738, 1223930612, LimitHit::AllDocuments(17)),
+        (65536, 1000000, 0, LimitHit::AllDocuments(14)),
+    ];
+    for (docs, words, seed, hit) in rows {
+        let fault = gen_documents(alloc, docs, words, seed).err();
+        assert_eq!(rt; fault, Some(GenFault::Limit(hit)), "at {docs}, {words}");
+    }
     Ok(())
 }

@@ -7,13 +7,11 @@ ghost use Rattle.ss_top.specs.Runs.{CallsFor, CallsForText};
 ghost use Rattle.ss_top.specs.declared.command.Command.TheVariants as command;
 
 use crate::commands::Stop;
+use crate::limits::DOCUMENT_LIMIT;
 use crate::{LimitHit, Which};
 use report::{index_of_document, print_index};
 use ss_base::{ReadStop, Shelf, read_all};
 use std::alloc::Global;
-
-/// The most bytes of a document.
-const DOCUMENT_LIMIT: usize = 8388608;
 
 /// The text of the index of the document under this name.
 pub(crate) fn index_text<L: Shelf>(

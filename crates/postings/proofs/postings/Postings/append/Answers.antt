@@ -1,7 +1,7 @@
 use Rattle.std.proofs.lemmas.Grind.{common_steps}
 use Rattle.std.proofs.Common.{arith, ◌≡◌}
-use Rattle.report.proofs.PostingListsLemmas.{ListsPostings-append}
-use Rattle.report.proofs.postings.Postings.append.Goals as goal
+use Rattle.postings.proofs.PostingListsLemmas.{ListsPostings-append}
+use Rattle.postings.proofs.postings.Postings.append.Goals as goal
 
 pub invariant_of-self-2 : goal.invariant_of-self-2
 invariant_of-self-2 c =

@@ -1,0 +1,128 @@
+-- Generated words and documents, one more.
+use Rattle.std.proofs.Common.{◌≡◌, ℕ, zero, suc, ◌+◌, ◌*◌, ◌<◌, ◌≤◌, List, [], ◌∷◌, ◌++◌, map}
+use Rattle.std.proofs.Common.{length, drop, sym, ap, ap₂, ◌∙◌, arith, add-one, append-nil}
+use Rattle.std.proofs.Common.{append_assoc, length-append, min, false, cond, nat_lt, Some, None}
+use Rattle.std.specs.Prelude.{sum_by}
+use Rattle.std.specs.List.{flat_map, range_with_len}
+use Rattle.std.proofs.lemmas.List.{take-append-drop}
+use Rattle.std.proofs.lemmas.List.FromFn.{map-range_with_len_more, take-map-range_with_len}
+use Rattle.std.proofs.lemmas.List.FromFn.{length-map-range_with_len, sum_by-map-range_with_len_more}
+use Rattle.ss_top.specs.declared.status.LimitHit.TheVariants.{Names}
+use Rattle.ss_top.specs.Generated.{state_after, state_at, generated_word, generated_document}
+use Rattle.ss_top.specs.Generated.{generated_documents, generated_limit}
+use Rattle.ss_top.specs.Limits.{names_limit, document_limit, all_documents_limit}
+use Rattle.ss_top.specs.Limits.{limit_with, first_limit, first_limit_from}
+use Rattle.ss_top.proofs.LimitsLemmas.{first_limit_from-append, first_limit_from-passed}
+use Rattle.ss_top.proofs.LimitsLemmas.{first_limit_from-within}
+use Rattle.ss_top.proofs.PartsLemmas.{flat_map-append}
+
+pub state_at-more : (x n : ℕ) → state_at x (n + 1) ≡ state_after (state_at x n)
+state_at-more x n = ap (state_at x) (add-one n)
+
+pub state_at-add : (x m n : ℕ) → state_at (state_at x m) n ≡ state_at x (m + n)
+state_at-add x m zero = let same : m ≡ m + 0 = omega arith in ap (state_at x) same
+state_at-add x m (suc n) =
+    let same : suc (m + n) ≡ m + suc n = omega arith in
+    ap state_after (state_at-add x m n) ∙ ap (state_at x) same
+
+pub generated_document-more :
+    (n x : ℕ)
+    → generated_document (n + 1) x ≡ generated_document n x ++ generated_word (state_at x (n + 1))
+generated_document-more n x =
+    ap (flat_map generated_word) (map-range_with_len_more (state_at x) 1 n (n + 1) (omega arith))
+    ∙ flat_map-append generated_word (map (state_at x) (range_with_len 1 n))
+    (state_at x (n + 1) ∷ [])
+    ∙ ap (λ t. generated_document n x ++ t) (append-nil (generated_word (state_at x (n + 1))))
+
+-- a document is at least as long as its first words
+pub length-generated_document-le :
+    (m n x : ℕ) → m ≤ n → length (generated_document m x) ≤ length (generated_document n x)
+length-generated_document-le m n x le =
+    let states = map (state_at x) (range_with_len 1 n) in
+    let split : generated_document n x
+    ≡ generated_document m x ++ flat_map generated_word (drop m states) =
+    ap (flat_map generated_word)
+    (sym (take-append-drop m states)
+    ∙ ap (λ s. s ++ drop m states) (take-map-range_with_len (state_at x) 1 n m le))
+    ∙ flat_map-append generated_word (map (state_at x) (range_with_len 1 m)) (drop m states) in
+    omega (
+      arith,
+      ap length split,
+      length-append (generated_document m x) (flat_map generated_word (drop m states)),
+    )
+
+module _ (words seed : ℕ) where
+  -- the document behind so many
+  abbrev document_at : ℕ → List ℕ
+  document_at i = generated_document words (state_at seed (i * words))
+
+  pub generated_documents-more :
+      (n : ℕ)
+      → generated_documents (n + 1) words seed
+      ≡ generated_documents n words seed ++ document_at n ∷ []
+  generated_documents-more n = map-range_with_len_more document_at 0 n n (omega arith)
+
+  -- the documents before one, that one, and those behind it
+  pub generated_documents-split :
+      (n docs : ℕ) → n < docs
+      → generated_documents docs words seed
+      ≡ generated_documents n words seed
+      ++ document_at n ∷ drop (n + 1) (generated_documents docs words seed)
+  generated_documents-split n docs less =
+      let all = generated_documents docs words seed in
+      sym (take-append-drop (n + 1) all)
+      ∙ ap (λ ds. ds ++ drop (n + 1) all)
+      (take-map-range_with_len document_at 0 docs (n + 1) (omega arith)
+      ∙ generated_documents-more n)
+      ∙ append_assoc (generated_documents n words seed) (document_at n ∷ []) (drop (n + 1) all)
+
+  -- where they aren't too many
+  pub generated_limit-few :
+      (docs : ℕ) → docs ≤ names_limit
+      → generated_limit docs words seed ≡ first_limit (generated_documents docs words seed)
+  generated_limit-few docs few =
+      let fits : nat_lt names_limit docs ≡ false = grind arith in
+      ap (λ b. cond b (Some (Names docs)) (first_limit (generated_documents docs words seed))) fits
+
+  pub sum_by-generated_documents-more :
+      (n : ℕ)
+      → sum_by length (generated_documents (n + 1) words seed)
+      ≡ sum_by length (generated_documents n words seed) + length (document_at n)
+  sum_by-generated_documents-more n =
+      sum_by-map-range_with_len_more length document_at 0 n n (omega arith)
+
+  module _ (n left : ℕ)
+      (sum : left + sum_by length (generated_documents n words seed) ≡ all_documents_limit)
+      (none : first_limit (generated_documents n words seed) ≡ None) where
+    -- the limit of documents of which the first n meet none
+    first_limit-behind :
+        (ds : List (List ℕ))
+        → first_limit (generated_documents n words seed ++ ds)
+        ≡ first_limit_from (sum_by length (generated_documents n words seed)) (n + 1) ds
+    first_limit-behind ds =
+        let before = sum_by length (generated_documents n words seed) in
+        let zero_more : 0 + before ≡ before = omega arith in
+        let number : 1 + length (generated_documents n words seed) ≡ n + 1 =
+        omega (arith, length-map-range_with_len document_at 0 n) in
+        first_limit_from-append 0 1 (generated_documents n words seed) ds none
+        ∙ ap₂ (λ b i. first_limit_from b i ds) zero_more number
+
+    -- one document more that meets none
+    pub first_limit-more :
+        length (document_at n) ≤ min left document_limit
+        → first_limit (generated_documents (n + 1) words seed) ≡ None
+    first_limit-more within =
+        ap first_limit (generated_documents-more n) ∙ first_limit-behind (document_at n ∷ [])
+        ∙ first_limit_from-within _ left (n + 1) (document_at n) [] sum within
+
+    -- a document that passes what is left
+    pub generated_limit-met :
+        (docs : ℕ) → n < docs → docs ≤ names_limit
+        → min left document_limit < length (document_at n)
+        → generated_limit docs words seed ≡ Some (limit_with (n + 1) left)
+    generated_limit-met docs less few passes =
+        let rest = drop (n + 1) (generated_documents docs words seed) in
+        generated_limit-few docs few
+        ∙ ap first_limit (generated_documents-split n docs less)
+        ∙ first_limit-behind (document_at n ∷ rest)
+        ∙ first_limit_from-passed _ left (n + 1) (document_at n) rest sum passes

@@ -1,0 +1,86 @@
+-- Documents one behind the other, of which the first ones meet no limit.
+use Rattle.std.proofs.Common.{◌≡◌, ℕ, ◌+◌, ◌<◌, ◌≤◌, nat_lt, nat_le, Bool, true, false, cond, min}
+use Rattle.std.proofs.Common.{List, [], ◌∷◌, ◌++◌, length, Some, None}
+use Rattle.std.proofs.Common.{refl, sym, ap, ap₂, ◌∙◌, ⊎_elim, arith}
+use Rattle.std.specs.Prelude.{◌&&◌, sum_by}
+use Rattle.std.proofs.lemmas.Bool.{cases_Bool}
+use Rattle.std.proofs.lemmas.List.Sums.{sum_by-cons}
+use Rattle.std.specs.declared.option.Option.{Option}
+use Rattle.ss_top.specs.declared.status.LimitHit.{LimitHit}
+use Rattle.ss_top.specs.declared.status.LimitHit.TheVariants.{Document, AllDocuments}
+use Rattle.ss_top.specs.Limits.{document_limit, all_documents_limit, limit_with, first_limit_from}
+
+-- what is neither of two limits is the third
+neither : (a b : Bool) (x y : LimitHit) (rest : Option LimitHit)
+    → cond a (Some x) (cond b (Some y) rest) ≡ None
+    → (a ≡ false) × (b ≡ false) × (rest ≡ None)
+neither true b x y rest none = cc
+neither false true x y rest none = cc
+neither false false x y rest none = (refl, refl, none)
+
+third : (a b : Bool) (x y : LimitHit) (rest : Option LimitHit)
+    → a ≡ false → b ≡ false → cond a (Some x) (cond b (Some y) rest) ≡ rest
+third a b x y rest p q =
+    ap (λ t. cond t (Some x) (cond b (Some y) rest)) p ∙ ap (λ t. cond t (Some y) rest) q
+
+-- documents that meet no limit are passed over
+pub first_limit_from-append :
+    (before i : ℕ) (ds es : List (List ℕ)) → first_limit_from before i ds ≡ None
+    → first_limit_from before i (ds ++ es)
+    ≡ first_limit_from (before + sum_by length ds) (i + length ds) es
+first_limit_from-append before i [] es none =
+    let same : before ≡ before + 0 = omega arith in
+    let number : i ≡ i + 0 = omega arith in
+    ap₂ (λ b n. first_limit_from b n es) same number
+first_limit_from-append before i (d ∷ ds) es none =
+    let parts = neither _ _ (Document i) (AllDocuments i)
+    (first_limit_from (before + length d) (i + 1) ds) none in
+    let same : before + length d + sum_by length ds ≡ before + sum_by length (d ∷ ds) =
+    omega (arith, sum_by-cons length d ds) in
+    let number : i + 1 + length ds ≡ i + length (d ∷ ds) = omega arith in
+    third _ _ (Document i) (AllDocuments i) _ parts.0 parts.1
+    ∙ first_limit_from-append (before + length d) (i + 1) ds es parts.2
+    ∙ ap₂ (λ b n. first_limit_from b n es) same number
+
+and-false : (a : Bool) → (a && false) ≡ false
+and-false true = refl
+and-false false = refl
+
+module _ (before left i : ℕ) (d : List ℕ) (ds : List (List ℕ))
+    (sum : left + before ≡ all_documents_limit) where
+  -- what comes behind the document, and what comes where it isn't over its own limit
+  abbrev others : Option LimitHit
+  others = first_limit_from (before + length d) (i + 1) ds
+
+  abbrev rest : Option LimitHit
+  rest = cond (nat_lt all_documents_limit (before + length d)) (Some (AllDocuments i)) others
+
+  -- a document that passes what is left for it, or what is left for all
+  pub first_limit_from-passed :
+      min left document_limit < length d
+      → first_limit_from before i (d ∷ ds) ≡ Some (limit_with i left)
+  first_limit_from-passed passes =
+      ⊎_elim
+      (λ room.
+      let own : nat_lt document_limit (length d) ≡ true = grind arith in
+      let fits : nat_le (before + document_limit) all_documents_limit ≡ true = grind arith in
+      ap₂ (λ a b. cond (a && b) (Some (Document i)) rest) own fits
+      ∙ sym (ap (λ b. Some (cond b (Document i) (AllDocuments i))) room))
+      (λ none.
+      let over : nat_le (before + document_limit) all_documents_limit ≡ false = grind arith in
+      let passed : nat_lt all_documents_limit (before + length d) ≡ true = grind arith in
+      ap (λ b. cond (nat_lt document_limit (length d) && b) (Some (Document i)) rest) over
+      ∙ ap (λ b. cond b (Some (Document i)) rest) (and-false (nat_lt document_limit (length d)))
+      ∙ ap (λ b. cond b (Some (AllDocuments i)) others) passed
+      ∙ sym (ap (λ b. Some (cond b (Document i) (AllDocuments i))) none))
+      (cases_Bool (nat_le document_limit left))
+
+  -- a document that doesn't
+  pub first_limit_from-within :
+      length d ≤ min left document_limit
+      → first_limit_from before i (d ∷ ds) ≡ first_limit_from (before + length d) (i + 1) ds
+  first_limit_from-within within =
+      let own : nat_lt document_limit (length d) ≡ false = grind arith in
+      let all : nat_lt all_documents_limit (before + length d) ≡ false = grind arith in
+      third _ _ (Document i) (AllDocuments i) others
+      (ap (λ a. a && nat_le (before + document_limit) all_documents_limit) own) all
