@@ -2,4 +2,4 @@ pub mod Counts
 pub mod Laws
 pub mod Numbers
 pub mod Pairs
-pub mod TextTables
+pub mod CountTables

@@ -3,8 +3,8 @@ ghost use Rattle.std.specs.Prelude.{◌≡◌, ℕ, List, ◌+◌, ◌%◌, ◌^
 ghost use Rattle.std.specs.FinMap as finite;
 ghost use Rattle.class_laws.specs.Counts.{count_of, counts_after_add, counts_join};
 
+use crate::count_table::CountTable;
 use crate::reducible::Reducible;
-use crate::text_table::TextTable;
 use ss_base::OutOfMemory;
 use std::alloc::Global;
 use std::marker::Model;
@@ -14,8 +14,7 @@ use std::mem;
 /// `CountMap::unit`.
 #[derive(Drop)]
 pub struct CountMap {
-    alloc: Global,
-    counts: TextTable,
+    counts: CountTable,
 }
 
 impl Model for CountMap {
@@ -33,16 +32,13 @@ impl Model for CountMap {
 
 impl CountMap {
     /// Adds `by` to the count of a key, modulo 2^64. Memory is taken for a new key alone. An
-    /// `OutOfMemory` changes nothing.
+    /// `OutOfMemory` changes nothing. It comes too where the keys would pass `u32::MAX` bytes
+    /// together or in number.
     pub fn add(&mut self, key: &str, by: u64) -> Result<(), OutOfMemory>
         ensures ok { OnOk result (self.new ≡ counts_after_add self.old key.now by) }
         ensures err { OnErr result (self.new ≡ self.old) }
         ensures new_key { OnErr result (finite.get self.old key.now ≡ None) }
     {
-        if self.counts.add_existing(key, by) {
-            return Ok(());
-        }
-        let key = String::from_str(self.alloc, key)?;
         self.counts.add(key, by)
     }
 
@@ -65,8 +61,7 @@ impl Reducible for CountMap {
 
     fn unit(alloc: Global) -> CountMap {
         CountMap {
-            alloc,
-            counts: TextTable::new(alloc),
+            counts: CountTable::new(alloc),
         }
     }
 
@@ -80,17 +75,16 @@ impl Reducible for CountMap {
             → finite.contains_key self.new key
             ≡ (finite.contains_key self.old key || finite.contains_key other key)) }
     {
-        let CountMap { counts, .. } = other;
+        let CountMap { counts } = other;
         let mut smaller = counts;
         if self.counts.len() < smaller.len() {
             mem::swap(&mut self.counts, &mut smaller);
         }
-        self.counts.pour(smaller)
+        self.counts.pour(&smaller)
     }
 
     fn copy(&self) -> Result<CountMap, OutOfMemory> {
         Ok(CountMap {
-            alloc: self.alloc,
             counts: self.counts.copy()?,
         })
     }

@@ -8,10 +8,10 @@
 mod both;
 mod class;
 mod count_map;
+mod count_table;
 mod local;
 mod numbers;
 mod reducible;
-mod text_table;
 
 pub use both::Both;
 pub use class::{Class, no_reading};

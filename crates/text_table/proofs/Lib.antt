@@ -1,0 +1,4 @@
+pub mod ArenasLemmas
+pub mod BucketsLemmas
+pub mod LookupsLemmas
+pub mod TextTablesLemmas

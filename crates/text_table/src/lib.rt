@@ -1,0 +1,13 @@
+//! Numbers for texts. A `TextTable` numbers distinct texts 0, 1, 2, .. in the order in which they
+//! first come. It keeps them in one string, and no choice of texts makes it slow.
+#![tactic(auto)]
+
+mod arena;
+mod buckets;
+mod table;
+mod tag;
+
+pub use table::TextTable;
+
+#[cfg(test)]
+mod tests;

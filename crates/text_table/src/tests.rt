@@ -1,0 +1,84 @@
+// What no clause says: that the calls succeed where there is memory, and that the definitions mean
+// what they are meant to, by numbers worked out by hand.
+use crate::TextTable;
+use crate::tag::tag_of_text;
+use std::test::Fail;
+
+// Texts as they come, each with its number.
+const INSERTED: [(&str, u32); 9] = [
+    ("to", 0),
+    ("be", 1),
+    ("or", 2),
+    ("", 3),
+    ("to", 0),
+    ("Größe", 4),
+    ("größe", 5),
+    ("be", 1),
+    ("", 3),
+];
+
+#[test]
+fn texts_are_numbered_as_they_first_come(rt: HostRuntime) -> Result<(), Fail> {
+    let mut table = TextTable::new(rt.alloc());
+    assert_eq!(rt; table.number_of("to"), None);
+    for (text, number) in &INSERTED {
+        assert_eq!(rt; table.insert(text)?, *number);
+        assert_eq!(rt; table.number_of(text), Some(*number));
+    }
+    assert_eq!(rt; table.len(), 6);
+    Ok(())
+}
+
+#[test]
+fn a_copy_stays_as_it_is(rt: HostRuntime) -> Result<(), Fail> {
+    let mut table = TextTable::new(rt.alloc());
+    table.insert("to")?;
+    table.insert("be")?;
+    let copy = table.copy()?;
+    table.insert("or")?;
+    assert_eq!(rt; table.len(), 3);
+    assert_eq!(rt; copy.len(), 2);
+    assert_eq!(rt; copy.number_of("be"), Some(1));
+    assert_eq!(rt; copy.number_of("or"), None);
+    Ok(())
+}
+
+#[test]
+fn a_thousand_texts_stay_where_they_are(rt: HostRuntime) -> Result<(), Fail> {
+    let alloc = rt.alloc();
+    let mut table = TextTable::new(alloc);
+    for number in 0u32..1000 {
+        let text = format!(in alloc; "text {number}")?;
+        assert_eq!(rt; table.insert(text.as_str())?, number);
+    }
+    for number in 0..table.len() {
+        let text = format!(in alloc; "text {number}")?;
+        assert_eq!(rt; table.text(number), text.as_str());
+        assert_eq!(rt; table.number_of(text.as_str()), Some(number));
+    }
+    assert_eq!(rt; table.number_of("text 1000"), None);
+    Ok(())
+}
+
+// Found by search: the lowest 16 bits of their tags are the same, so up to 65,536 buckets they are
+// all for one of eight places.
+const OF_ONE_BUCKET: &str = "aaaabfy2 aaaaehos aaaafwwd aaaaghxc aaaahxnt aaaah4r3 aaaaiwce \
+    aaaajoid aaaak5dm aaaalmti aaaanyov aaaarbii aaaar26g aaaasgxc aaaatedi aaaawg7c aaaaw5xd \
+    aaaax6st aaaaymb3 aaaa3kzu";
+
+#[test]
+fn texts_of_one_bucket_overflow_it(rt: HostRuntime) -> Result<(), Fail> {
+    let mut table = TextTable::new(rt.alloc());
+    for _ in 0u8..2 {
+        for (number, text) in OF_ONE_BUCKET.split_whitespace().enumerate() {
+            assert_eq!(rt; tag_of_text(text) & 0xffff, 0x1234);
+            assert_eq!(rt; table.insert(text)? as usize, number);
+        }
+    }
+    assert_eq!(rt; table.len(), 20);
+    let copy = table.copy()?;
+    for text in OF_ONE_BUCKET.split_whitespace() {
+        assert_eq!(rt; copy.number_of(text), table.number_of(text));
+    }
+    Ok(())
+}
