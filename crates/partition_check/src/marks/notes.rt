@@ -1,19 +1,51 @@
 // The notes: what an accepted call leaves in the marks.
 
-ghost use Rattle.std.specs.Prelude.{◌≡◌, ◌^◌, ◌<◌, true, List, None, [], ◌∷◌, ◌++◌, length};
+ghost use Rattle.std.specs.Prelude.{◌≡◌, ◌^◌, ◌<◌, true, OnOk, OnErr, IfOk};
+ghost use Rattle.std.specs.Prelude.{List, None, [], ◌∷◌, ◌++◌, length};
 ghost use Rattle.execution_definitions.specs.Shapes.{Shape, delegate};
+ghost use Rattle.execution_definitions.specs.Sets.{set_of as set_in};
 ghost use Rattle.execution_definitions.specs.Refusals.{breaks};
+ghost use Rattle.partition_check.specs.Marked.{mark_at, set_marked};
 ghost use Rattle.partition_check.specs.Judged.{judged};
 ghost use Rattle.partition_check.specs.MarkedAfter.{marked_after, with_call_counted};
 ghost use Rattle.partition_check.specs.MarkedAfter.{changed_at, with_set, with_reader, with_reader_at, HasMark};
 ghost use Rattle.partition_check.specs.Represents.{Represents, RepresentsWith, IsUnmarked};
-ghost use Rattle.partition_check.specs.Answers.{number_read};
+ghost use Rattle.partition_check.specs.Answers.{Answers, AnswersRule, number_read};
 
 use super::Marks;
 use crate::cell::{delegated, read};
-use ss_base::ObjectId;
+use execution_definitions::Refusal;
+use ss_base::{ObjectId, SetId};
 
 impl Marks {
+    /// Checks a delegation and, where it isn't refused, marks and counts it: `check_delegate` and
+    /// `note_delegate` in one call. Ok gives the operation's set.
+    pub fn delegate(
+        &mut self,
+        o: ObjectId,
+        own: u64,
+        reading: Option<ObjectId>,
+    ) -> Result<SetId, Refusal>
+        ensures judged { Answers result (judged self.old (delegate o.0 own (number_read reading))) }
+        ensures breaks { AnswersRule result self.old (delegate o.0 own (number_read reading)) }
+
+        // The set by the marks, and by every list that they represent.
+        ensures set_marked { let mark = mark_at self.old o.0 in
+            IfOk result (λ set. set.0 ≡ set_marked mark o.0 own) }
+        ensures set { IfOk result (λ set. (calls : List Shape) → Represents self.old calls →
+            set.0 ≡ set_in calls o.0 own) }
+
+        ensures after { let call = delegate o.0 own (number_read reading) in
+            OnOk result (self.new ≡ marked_after self.old call) }
+        ensures represents { let call = delegate o.0 own (number_read reading) in
+            OnOk result (RepresentsWith self.old self.new call) }
+        ensures unchanged { OnErr result (self.new ≡ self.old) }
+    {
+        let set = self.check_delegate(o, own, reading)?;
+        self.note_delegate(o, own, reading);
+        Ok(set)
+    }
+
     /// Marks and counts an accepted delegation: one for which `check_delegate` answers Ok.
     pub fn note_delegate(&mut self, o: ObjectId, own: u64, reading: Option<ObjectId>)
         requires { judged self.old (delegate o.0 own (number_read reading)) ≡ None }
