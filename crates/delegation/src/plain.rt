@@ -123,15 +123,16 @@ impl<C: Class> Runtime<C> for Plain<C> {
         if self.has_failed {
             return Err(Fault::OutOfMemory);
         }
-        let own = C::own_set(&op);
-        let set = match self.marks.check_delegate(o, own, reading) {
+        // Of a runtime that failed nothing is said, so the call is marked before it is run.
+        let call = CallNo(self.marks.calls());
+        let epoch = self.marks.epoch();
+        let set = match self.marks.delegate(o, C::own_set(&op), reading) {
             Ok(set) => set,
             Err(refusal) => return Err(Fault::Refused(refusal)),
         };
-        let call = CallNo(self.marks.calls());
         let run = Run {
             call,
-            epoch: self.marks.epoch(),
+            epoch,
             set,
             object: o,
         };
@@ -150,7 +151,6 @@ impl<C: Class> Runtime<C> for Plain<C> {
             self.has_failed = true;
             return Err(Fault::OutOfMemory);
         };
-        self.marks.note_delegate(o, own, reading);
         Ok(call)
     }
 

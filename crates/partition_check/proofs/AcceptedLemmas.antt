@@ -1,16 +1,20 @@
 -- What an accepted call needs of the marks.
-use Rattle.std.proofs.Common.{◌≡◌, ℕ, ◌^◌, ◌<◌, Bool, true, false, not, Option, Some, None, List, length, refl, arith}
-use Rattle.std.specs.Prelude.{nat_le}
+use Rattle.std.proofs.Common.{◌≡◌, ℕ, ◌^◌, ◌<◌, Bool, true, false, not, Option, Some, None, List, length, refl, sym, ◌∙◌, subst, arith}
+use Rattle.std.specs.Prelude.{nat_le, ◌==◌, is_some, is_none, if◌then◌else◌}
 use Rattle.std.proofs.lemmas.Bool.Decides.{nat_tests}
-use Rattle.std.proofs.lemmas.Option.{slice_get_within}
+use Rattle.std.proofs.lemmas.Option.{slice_get_within, same_Some}
+use Rattle.ss_base.specs.declared.ids.SetId.{SetId}
+use Rattle.execution_definitions.specs.declared.refusal.Refusal.{Refusal}
 use Rattle.execution_definitions.specs.declared.refusal.Refusal.TheVariants.{NotIsolating, TooManyObjects, TooManyCalls}
+use Rattle.execution_definitions.specs.declared.serializer.Serializer.{Serializer}
 use Rattle.execution_definitions.specs.Shapes.{delegate}
-use Rattle.execution_definitions.specs.Refusals.{first_of, refuse_if, if_reading, too_many_objects, too_many_calls}
+use Rattle.execution_definitions.specs.Refusals.{first_of, refuse_if, if_reading, self_read, too_many_objects, too_many_calls}
 use Rattle.execution_definitions.proofs.RefusalsLemmas.{first_of-none}
 use Rattle.partition_check.specs.declared.mark.Mark.{Mark}
-use Rattle.partition_check.specs.Marked.{Marked, mark_at}
-use Rattle.partition_check.specs.Judged.{judged, judged_delegate, unknown_if, unknown_read}
+use Rattle.partition_check.specs.Marked.{Marked, mark_at, set_marked}
+use Rattle.partition_check.specs.Judged.{judged, judged_delegate, unknown_if, unknown_read, read_only_if, two_sets_in, shared_if, held_in, private_in, private_read}
 use Rattle.partition_check.specs.MarkedAfter.{HasMark}
+use Rattle.partition_check.specs.Delegable.{IsFree, IsReadFree, IsReadOther, IsDelegable}
 
 -- what an accepted delegation needs of the marks
 
@@ -30,16 +34,43 @@ pub HasMark-longer : (reading : Option ℕ) (marks more : List Mark) → length 
 HasMark-longer None marks more same has = tt
 HasMark-longer (Some read) marks more same has = omega arith
 
--- an accepted delegation is in an open epoch, and the objects that it names have marks
-pub record IsDelegable (marked : Marked) (object : ℕ) (reading : Option ℕ) : Type 0 where
-  pub known : object < length marked.objects
-  pub isolating : marked.is_open ≡ true
-  pub read_known : HasMark reading marked.objects
-
 -- an epoch is open where it isn't refused that none is
 pub is_open_then : (opened : Bool) → refuse_if (not opened) NotIsolating ≡ None → opened ≡ true
 is_open_then true none = refl
 is_open_then false none = absurd cc
+
+-- what isn't refused doesn't hold
+refused_not : (test : Bool) (refusal : Refusal) → refuse_if test refusal ≡ None → test ≡ false
+refused_not true refusal none = absurd cc
+refused_not false refusal none = refl
+
+-- an object that isn't refused as private may be read
+free_mark : (object : ℕ) (mark : Mark) → private_in object (Some mark) ≡ None → IsFree mark
+free_mark object mark none = λ writable. by_serializer mark.serializer mark.set writable none where
+  by_serializer : (s : Option Serializer) (given : Option SetId) → is_some s ≡ true →
+      (if is_none s then None else held_in object given) ≡ None → given ≡ None
+  by_serializer None given writable none = absurd cc
+  by_serializer (Some s) None writable none = refl
+  by_serializer (Some s) (Some set) writable none = absurd cc
+
+free_read : (marked : Marked) (reading : Option ℕ) →
+    if_reading reading (private_read marked) ≡ None → IsReadFree reading marked.objects
+free_read marked None none = tt
+free_read marked (Some read) none = λ mark some.
+    free_mark read mark (subst (λ m. private_in read m ≡ None) some none)
+
+other_read : (object : ℕ) (reading : Option ℕ) →
+    if_reading reading (self_read object) ≡ None → IsReadOther reading object
+other_read object None none = tt
+other_read object (Some read) none = refused_not (read == object) _ none
+
+-- there is room for a call where the limit isn't reached
+call_room : (calls : ℕ) → too_many_calls calls ≡ None → calls < 2 ^ 60
+call_room calls none = by_test (nat_le (2 ^ 60) calls) refl none where
+  by_test : (test : Bool) → nat_le (2 ^ 60) calls ≡ test → refuse_if test TooManyCalls ≡ None →
+      calls < 2 ^ 60
+  by_test true is none = absurd cc
+  by_test false is none = grind (arith, nat_tests)
 
 -- these follow from a row that refuses nothing
 pub delegable : (marked : Marked) (object own : ℕ) (reading : Option ℕ) →
@@ -53,10 +84,23 @@ delegable marked object own reading accepted = by_mark (mark_at marked object) r
   by_mark (Some mark) some accepted =
       let read = first_of-none (if_reading reading (unknown_read marked)) _ accepted in
       let opened = first_of-none (refuse_if (not marked.is_open) NotIsolating) _ read.1 in
+      let writable = first_of-none (read_only_if object mark) _ opened.1 in
+      let one_set =
+      first_of-none (two_sets_in object mark.set (set_marked (Some mark) object own)) _
+      writable.1 in
+      let unshared = first_of-none (shared_if object mark) _ one_set.1 in
+      let other = first_of-none (if_reading reading (self_read object)) _ unshared.1 in
+      let free = first_of-none (if_reading reading (private_read marked)) _ other.1 in
       record {
-        known = slice_get_within marked.objects object mark some;
         isolating = is_open_then marked.is_open opened.0;
+        known = slice_get_within marked.objects object mark some;
+        unshared = λ same is. subst (λ m. m.shared ≡ false)
+            (same_Some mark same (sym some ∙ is))
+            (refused_not mark.shared _ unshared.0);
         read_known = has_mark marked reading read.0;
+        read_other = other_read object reading other.0;
+        read_free = free_read marked reading free.0;
+        room = call_room marked.calls free.1;
       }
 
 -- there is room where neither limit is reached

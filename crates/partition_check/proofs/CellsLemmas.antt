@@ -1,7 +1,8 @@
 -- Cells, and the marks that they stand for.
 use Rattle.std.proofs.Common.{◌≡◌, ℕ, ◌+◌, ◌<◌, ◌≤◌, Bool, true, false, ◌&&◌, Option, Some, None, List, [], ◌∷◌, length, get_or, map, ◌^◌, ◌++◌, length-append, refl, arith, zero, suc}
-use Rattle.std.specs.Prelude.{◌==◌, slice_set, All, is_some}
+use Rattle.std.specs.Prelude.{◌==◌, slice_get, slice_set, All, is_some}
 use Rattle.std.proofs.lemmas.Bool.Decides.{nat_tests}
+use Rattle.std.proofs.lemmas.Option.{slice_get-map, slice_get_read}
 use Rattle.std.proofs.lemmas.List.Elements.{All-head, All-tail, All-push}
 use Rattle.execution_definitions.specs.declared.serializer.By.{By}
 use Rattle.execution_definitions.specs.declared.serializer.By.TheVariants.{Object, Sequence, Own}
@@ -24,11 +25,7 @@ and-false false = refl
 mark_in-begin : (epochs : ℕ) (is_open : Bool) (cell : Cell) → IsStamped epochs cell →
     mark_in (epochs + 1) true cell ≡ cleared_mark (mark_in epochs is_open cell)
 mark_in-begin epochs is_open cell stamped =
-    rw (
-      not_yet epochs cell.set_epoch stamped.0,
-      not_yet epochs cell.read_epoch stamped.1,
-      and-false (is_some cell.serializer),
-    ) refl
+    rw (not_yet epochs cell.epoch stamped, and-false (is_some cell.by)) refl
 
 -- a new epoch clears every mark
 pub map-begin : (epochs : ℕ) (is_open : Bool) (cells : List Cell) → All (IsStamped epochs) cells →
@@ -45,7 +42,18 @@ pub map-end : (epochs : ℕ) (is_open : Bool) (cells : List Cell) →
     map (mark_in epochs false) cells ≡ map cleared_mark (map (mark_in epochs is_open) cells)
 map-end epochs is_open [] = refl
 map-end epochs is_open (cell ∷ cells) =
-    rw (and-false (is_some cell.serializer), map-end epochs is_open cells) refl
+    rw (and-false (is_some cell.by), map-end epochs is_open cells) refl
+
+-- the mark of a cell in the open epoch
+pub slice_get-cell : (epochs : ℕ) (is_open : Bool) (cells : List Cell) (i : ℕ) (cell : Cell) →
+    is_open ≡ true → i < length cells → cell ≡ get_or cells i cell →
+    slice_get (map (mark_in epochs is_open) cells) i ≡ Some (mark_in epochs true cell)
+slice_get-cell epochs is_open cells i cell opened inside at =
+    rw (
+      opened,
+      slice_get-map (mark_in epochs true) cells i,
+      slice_get_read cells (length cells) i cell refl inside at,
+    ) refl
 
 -- a cell written at a place changes the mark at that place
 pub map-changed_at : (epochs : ℕ) (is_open : Bool) (cells : List Cell) (i : ℕ) (old new : Cell)

@@ -16,6 +16,7 @@ use Rattle.execution_definitions.proofs.RefusalsLemmas.{first_of-none}
 use Rattle.partition_check.specs.declared.mark.Mark.{Mark}
 use Rattle.partition_check.specs.Marked.{Marked}
 use Rattle.partition_check.specs.MarkedAfter.{with_set, with_reader, changed_at, with_reader_at, marked_after}
+use Rattle.partition_check.specs.Delegable.{IsReadFree, IsReadOther}
 use Rattle.partition_check.specs.Represents.{Represents, IsMarkOf}
 use Rattle.partition_check.proofs.MarkLemmas.{IsHalfway, halfway_to, halfway_elsewhere, whole_read, whole_unread}
 use Rattle.partition_check.proofs.KnownLemmas.{within_objects}
@@ -50,6 +51,15 @@ pub length-with_reader_at : (reading : Option ℕ) (marks : List Mark) →
     length (with_reader_at reading marks) ≡ length marks
 length-with_reader_at None marks = refl
 length-with_reader_at (Some read) marks = length-changed_at with_reader marks read
+
+-- an object to be read stays as it is where another is changed
+pub IsReadFree-elsewhere : (change : Mark → Mark) (marks : List Mark) (object : ℕ)
+    (reading : Option ℕ) → IsReadOther reading object → IsReadFree reading marks →
+    IsReadFree reading (changed_at object change marks)
+IsReadFree-elsewhere change marks object None other free = tt
+IsReadFree-elsewhere change marks object (Some read) other free = λ mark some.
+    free mark (sym (slice_get-changed_elsewhere change marks object read
+    (grind (arith, nat_tests))) ∙ some)
 
 -- the old mark behind a mark of the changed list: at the place, and elsewhere
 changed_mark : {A : Type 0} (change : Mark → Mark) (marks : List Mark) (i object : ℕ)

@@ -2,18 +2,20 @@
 --
 -- A cell keeps the epoch in which it was last written. So a new epoch clears every cell at once, by
 -- its number alone.
-use Rattle.std.specs.Prelude.{ℕ, ◌≤◌, Bool, ◌&&◌, ◌==◌, Some, None, if◌then◌else◌, is_some}
+use Rattle.std.specs.Prelude.{ℕ, ◌≤◌, Bool, not, ◌&&◌, ◌==◌, Some, None, if◌then◌else◌, is_some}
 use Rattle.partition_check.specs.declared.cell.Cell.{Cell}
 use Rattle.partition_check.specs.declared.mark.Mark.{Mark}
+use Rattle.partition_check.specs.MarkedAfter.{serializer_making}
 
 -- the mark that a cell stands for after so many epochs, the last of which is open or not
 abbrev pub mark_in : ℕ → Bool → Cell → Mark
-mark_in epochs is_open cell = record {
-  serializer = cell.serializer;
-  set = if (is_open && (cell.set_epoch == epochs)) then (Some cell.set) else None;
-  shared = is_some cell.serializer && (is_open && (cell.read_epoch == epochs));
-}
+mark_in epochs is_open cell =
+    let is_stamped = is_open && (cell.epoch == epochs) in record {
+      serializer = serializer_making cell.by cell.set.0;
+      set = if (is_stamped && not cell.was_read) then (Some cell.set) else None;
+      shared = is_some cell.by && (is_stamped && cell.was_read);
+    }
 
--- no cell was written in an epoch to come
+-- the cell wasn't written in an epoch to come
 abbrev pub IsStamped : ℕ → Cell → Type 0
-IsStamped epochs cell = (cell.set_epoch ≤ epochs) × (cell.read_epoch ≤ epochs)
+IsStamped epochs cell = cell.epoch ≤ epochs

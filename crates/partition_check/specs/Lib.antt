@@ -3,6 +3,7 @@ pub mod Cells
 pub mod Kept
 pub mod Judged
 pub mod MarkedAfter
+pub mod Delegable
 pub mod Represents
 pub mod Answers
 pub mod Theorem

@@ -1,40 +1,48 @@
-// The cell of one object: its mark, with the epochs in which it was written.
+// The cell of one object: its mark, with the epoch in which it was written.
 
 ghost use Rattle.std.specs.Prelude.{◌≡◌, ℕ, ◌<◌, Bool, true, false};
+ghost use Rattle.execution_definitions.specs.Sets.{set_under};
 ghost use Rattle.partition_check.specs.Cells.{mark_in, IsStamped};
-ghost use Rattle.partition_check.specs.MarkedAfter.{fresh_mark, with_set, with_reader};
+ghost use Rattle.partition_check.specs.Delegable.{IsFree};
+ghost use Rattle.partition_check.specs.MarkedAfter.{serializer_making, fresh_mark, with_set, with_reader};
 
 use crate::mark::Mark;
-use execution_definitions::Serializer;
-use serializer::set_of;
-use ss_base::{ObjectId, SetId};
+use execution_definitions::{By, Serializer};
+use serializer::serializer_of;
+use ss_base::SetId;
 
-/// What is kept of one object. The set and the reader count only in the epochs named beside them,
-/// so that a new epoch clears every cell without a pass over them. Epochs are numbered from 1.
+/// What is kept of one object, in 24 bytes: no object is both delegated to and read in one epoch,
+/// so one stamp tells of both.
+///
+/// The stamp counts only in its own epoch, so that a new epoch clears every cell without a pass
+/// over them. Epochs are numbered from 1.
 #[derive(Clone, Copy)]
 pub struct Cell {
-    /// What maps the object's operations to sets. None of a read-only object.
-    pub serializer: Option<Serializer>,
-    /// The last epoch in which the object was delegated to.
-    pub set_epoch: u64,
-    /// The set of that delegation.
+    /// What the object's maker asked for. None of a read-only object.
+    pub by: Option<By>,
+    /// In the epoch of the stamp operations read the object; else they were delegated to it.
+    pub was_read: bool,
+    /// The last epoch in which an operation was delegated to the object or, if it is writable,
+    /// read it.
+    pub epoch: u64,
+    /// The set of the last delegation. Of an object by sequence the only one it can have, from the
+    /// start.
     pub set: SetId,
-    /// The last epoch in which a delegated operation read the object.
-    pub read_epoch: u64,
 }
 
-/// The cell of a new object.
-pub fn fresh_cell(serializer: Option<Serializer>) -> Cell
+/// The cell of a new object, made after so many objects by sequence.
+pub fn fresh_cell(by: Option<By>, sequence_objects: u64) -> Cell
     ensures mark { (epochs : ℕ) (is_open : Bool) → 0 < epochs →
-        mark_in epochs is_open result ≡ fresh_mark serializer }
-    ensures closed { (epochs : ℕ) → mark_in epochs false result ≡ fresh_mark serializer }
+        mark_in epochs is_open result ≡ fresh_mark (serializer_making by sequence_objects) }
+    ensures closed { (epochs : ℕ) →
+        mark_in epochs false result ≡ fresh_mark (serializer_making by sequence_objects) }
     ensures stamped { (epochs : ℕ) → IsStamped epochs result }
 {
     Cell {
-        serializer,
-        set_epoch: 0,
-        set: SetId(0),
-        read_epoch: 0,
+        by,
+        was_read: false,
+        epoch: 0,
+        set: SetId(sequence_objects),
     }
 }
 
@@ -42,40 +50,52 @@ pub fn fresh_cell(serializer: Option<Serializer>) -> Cell
 pub fn mark_of(cell: &Cell, epochs: u64, is_open: bool) -> Mark
     ensures { result ≡ mark_in epochs is_open cell.now }
 {
-    let is_held = is_open && cell.set_epoch == epochs;
+    let is_stamped = is_open && cell.epoch == epochs;
     Mark {
-        serializer: cell.serializer,
-        set: if is_held { Some(cell.set) } else { None },
-        shared: cell.serializer.is_some() && is_open && cell.read_epoch == epochs,
+        serializer: serializer_in(cell.by, cell.set.0),
+        set: if is_stamped && !cell.was_read {
+            Some(cell.set)
+        } else {
+            None
+        },
+        shared: cell.by.is_some() && (is_stamped && cell.was_read),
     }
 }
 
-/// A cell after a delegation to its object in the open epoch.
-pub fn delegated(cell: Cell, epochs: u64, object: ObjectId, own: u64) -> Cell
-    ensures mark { mark_in epochs true result ≡ with_set object.0 own (mark_in epochs true cell) }
-    ensures stamped { IsStamped epochs cell → IsStamped epochs result }
+// The serializer of an object; none of a read-only one.
+fn serializer_in(by: Option<By>, sequence_objects: u64) -> Option<Serializer>
+    ensures { result ≡ serializer_making by sequence_objects }
 {
-    let set = match cell.serializer {
-        None => SetId(u64::from(object.0)),
-        Some(serializer) => set_of(serializer, object, own),
-    };
-    Cell {
-        serializer: cell.serializer,
-        set_epoch: epochs,
-        set,
-        read_epoch: cell.read_epoch,
+    match by {
+        None => None,
+        Some(by) => Some(serializer_of(by, sequence_objects)),
     }
 }
 
-/// A cell after a delegation in the open epoch that reads its object.
-pub fn read(cell: Cell, epochs: u64) -> Cell
-    ensures mark { mark_in epochs true result ≡ with_reader (mark_in epochs true cell) }
-    ensures stamped { IsStamped epochs cell → IsStamped epochs result }
-{
-    Cell {
-        serializer: cell.serializer,
-        set_epoch: cell.set_epoch,
-        set: cell.set,
-        read_epoch: epochs,
+impl Cell {
+    /// Holds the object to the set of an operation in the open epoch, in which it isn't shared.
+    pub fn hold(&mut self, epochs: u64, set: SetId)
+        requires unshared { (mark_in epochs true self.old).shared ≡ false }
+        ensures mark { (object own : ℕ) →
+            set.0 ≡ set_under (mark_in epochs true self.old).serializer object own →
+            mark_in epochs true self.new ≡ with_set object own (mark_in epochs true self.old) }
+        ensures stamped { IsStamped epochs self.new }
+    {
+        self.was_read = false;
+        self.epoch = epochs;
+        self.set = set;
+    }
+
+    /// Marks that an operation in the open epoch reads the object, if it is writable. It isn't held
+    /// to a set then.
+    pub fn share(&mut self, epochs: u64)
+        requires free { IsFree (mark_in epochs true self.old) }
+        ensures mark { mark_in epochs true self.new ≡ with_reader (mark_in epochs true self.old) }
+        ensures stamped { IsStamped epochs self.old → IsStamped epochs self.new }
+    {
+        if self.by.is_some() {
+            self.was_read = true;
+            self.epoch = epochs;
+        }
     }
 }

@@ -57,11 +57,14 @@ fn delegate(marks: &mut Marks, o: ObjectId, own: u64, reading: Option<u32>) -> O
         None => None,
         Some(read) => Some(ObjectId(read)),
     };
-    if let Err(refusal) = marks.check_delegate(o, own, reading) {
-        return Some(refusal);
-    }
-    marks.note_delegate(o, own, reading);
-    None
+    marks.delegate(o, own, reading).err()
+}
+
+// A delegation in two calls.
+fn check_and_note(marks: &mut Marks, o: ObjectId) -> Result<SetId, Refusal> {
+    let set = marks.check_delegate(o, 77, None)?;
+    marks.note_delegate(o, 77, None);
+    Ok(set)
 }
 
 fn two_sets(object: u32, first: u64, second: u64) -> Option<Refusal> {
@@ -149,11 +152,21 @@ fn marks_tell_the_calls_the_epoch_and_the_sets(rt: HostRuntime) {
             "at {object}"
         );
     }
-    assert_eq!(rt; delegate(&mut marks, ObjectId(2), 77, None), None);
-    for (object, set) in [(0, None), (1, None), (2, Some(SetId(1))), (9, None)] {
+    assert_eq!(rt; check_and_note(&mut marks, ObjectId(2)), Ok(SetId(1)));
+    assert_eq!(rt;
+        marks.delegate(ObjectId(3), 77, Some(ObjectId(1))),
+        Ok(SetId(2))
+    );
+    for (object, set) in [
+        (0, None),
+        (1, None),
+        (2, Some(SetId(1))),
+        (3, Some(SetId(2))),
+        (9, None),
+    ] {
         assert_eq!(rt; marks.delegated_to(ObjectId(object)), set, "at {object}");
     }
-    assert_eq!(rt; (marks.epoch(), marks.calls()), (1, 6));
+    assert_eq!(rt; (marks.epoch(), marks.calls()), (1, 7));
     assert_eq!(rt; marks.end(), Ok(()));
     assert_eq!(rt; marks.delegated_to(ObjectId(2)), None);
 }

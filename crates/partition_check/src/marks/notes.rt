@@ -1,19 +1,52 @@
 // The notes: what an accepted call leaves in the marks.
 
-ghost use Rattle.std.specs.Prelude.{◌≡◌, ◌^◌, ◌<◌, true, List, None, [], ◌∷◌, ◌++◌, length};
+ghost use Rattle.std.specs.Prelude.{◌≡◌, ℕ, ◌^◌, ◌<◌, true, OnOk, OnErr, IfOk};
+ghost use Rattle.std.specs.Prelude.{List, Some, None, [], ◌∷◌, ◌++◌, length};
 ghost use Rattle.execution_definitions.specs.Shapes.{Shape, delegate};
+ghost use Rattle.execution_definitions.specs.Sets.{set_of as set_in};
 ghost use Rattle.execution_definitions.specs.Refusals.{breaks};
+ghost use Rattle.partition_check.specs.Marked.{mark_at, set_marked};
 ghost use Rattle.partition_check.specs.Judged.{judged};
 ghost use Rattle.partition_check.specs.MarkedAfter.{marked_after, with_call_counted};
 ghost use Rattle.partition_check.specs.MarkedAfter.{changed_at, with_set, with_reader, with_reader_at, HasMark};
+ghost use Rattle.partition_check.specs.Delegable.{IsFree, IsReadFree, IsUnshared, IsSetFor, IsDelegable};
+ghost use Rattle.partition_check.specs.declared.mark.Mark.{Mark};
 ghost use Rattle.partition_check.specs.Represents.{Represents, RepresentsWith, IsUnmarked};
-ghost use Rattle.partition_check.specs.Answers.{number_read};
+ghost use Rattle.partition_check.specs.Answers.{Answers, AnswersRule, number_read};
 
 use super::Marks;
-use crate::cell::{delegated, read};
-use ss_base::ObjectId;
+use execution_definitions::{By, Refusal};
+use ss_base::{ObjectId, SetId};
 
 impl Marks {
+    /// Checks a delegation and, where it isn't refused, marks and counts it: `check_delegate` and
+    /// `note_delegate` in one call. Ok gives the operation's set.
+    pub fn delegate(
+        &mut self,
+        o: ObjectId,
+        own: u64,
+        reading: Option<ObjectId>,
+    ) -> Result<SetId, Refusal>
+        ensures judged { Answers result (judged self.old (delegate o.0 own (number_read reading))) }
+        ensures breaks { AnswersRule result self.old (delegate o.0 own (number_read reading)) }
+
+        // The set by the marks, and by every list that they represent.
+        ensures set_marked { let mark = mark_at self.old o.0 in
+            IfOk result (λ set. set.0 ≡ set_marked mark o.0 own) }
+        ensures set { IfOk result (λ set. (calls : List Shape) → Represents self.old calls →
+            set.0 ≡ set_in calls o.0 own) }
+
+        ensures after { let call = delegate o.0 own (number_read reading) in
+            OnOk result (self.new ≡ marked_after self.old call) }
+        ensures represents { let call = delegate o.0 own (number_read reading) in
+            OnOk result (RepresentsWith self.old self.new call) }
+        ensures unchanged { OnErr result (self.new ≡ self.old) }
+    {
+        let set = self.check_delegate(o, own, reading)?;
+        self.note_delegate(o, own, reading);
+        Ok(set)
+    }
+
     /// Marks and counts an accepted delegation: one for which `check_delegate` answers Ok.
     pub fn note_delegate(&mut self, o: ObjectId, own: u64, reading: Option<ObjectId>)
         requires { judged self.old (delegate o.0 own (number_read reading)) ≡ None }
@@ -21,9 +54,8 @@ impl Marks {
         ensures represents { let call = delegate o.0 own (number_read reading) in
             RepresentsWith self.old self.new call }
     {
-        self.hold(o, own);
-        self.share(reading);
-        self.calls += 1;
+        let set = self.set_for(o, own);
+        self.mark_delegation(o, set, reading);
     }
 
     /// Counts an accepted write, get or total. Fewer than 2^60 calls are counted before.
@@ -37,22 +69,48 @@ impl Marks {
         self.calls += 1;
     }
 
-    // Holds the object to the set of an operation that names `own`.
-    fn hold(&mut self, o: ObjectId, own: u64)
+    // The set of an operation on `o` that names `own`.
+    fn set_for(&self, o: ObjectId, own: u64) -> SetId
+        requires { o.0 < length self.now.objects }
+        ensures { result.0 ≡ set_marked (mark_at self.now o.0) o.0 own }
+    {
+        let cell = &self.cells[o.0 as usize];
+        match cell.by {
+            Some(By::Own) => SetId(own),
+            Some(By::Sequence) => cell.set,
+            Some(By::Object) | None => SetId(u64::from(o.0)),
+        }
+    }
+
+    // Marks and counts a delegation to this set.
+    fn mark_delegation(&mut self, o: ObjectId, set: SetId, reading: Option<ObjectId>)
+        requires delegable { IsDelegable self.old o.0 (number_read reading) }
+        requires set { IsSetFor self.old o.0 set.0 }
+        ensures { (own : ℕ) → set.0 ≡ set_marked (mark_at self.old o.0) o.0 own →
+            self.new ≡ marked_after self.old (delegate o.0 own (number_read reading)) }
+    {
+        self.hold(o, set);
+        self.share(reading);
+        self.calls += 1;
+    }
+
+    // Holds the object to this set, that of an operation on it.
+    fn hold(&mut self, o: ObjectId, set: SetId)
         requires known { o.0 < length self.old.objects }
         requires isolating { self.old.is_open ≡ true }
-        ensures { self.new ≡
+        requires unshared { IsUnshared self.old o.0 }
+        ensures { (own : ℕ) → set.0 ≡ set_marked (mark_at self.old o.0) o.0 own → self.new ≡
             record self.old { objects = changed_at o.0 (with_set o.0 own) self.old.objects } }
     {
-        let at = o.0 as usize;
-        let cell = self.cells[at];
-        self.cells[at] = delegated(cell, self.epochs, o, own);
+        let epochs = self.epochs;
+        self.cells[o.0 as usize].hold(epochs, set);
     }
 
     // Marks that an operation reads the object, where it reads one.
     fn share(&mut self, reading: Option<ObjectId>)
         requires known { HasMark (number_read reading) self.old.objects }
         requires isolating { self.old.is_open ≡ true }
+        requires free { IsReadFree (number_read reading) self.old.objects }
         ensures { self.new ≡
             record self.old { objects = with_reader_at (number_read reading) self.old.objects } }
     {
@@ -64,11 +122,11 @@ impl Marks {
     fn share_one(&mut self, o: ObjectId)
         requires known { o.0 < length self.old.objects }
         requires isolating { self.old.is_open ≡ true }
+        requires free { (mark : Mark) → mark_at self.old o.0 ≡ Some mark → IsFree mark }
         ensures { self.new ≡
             record self.old { objects = changed_at o.0 with_reader self.old.objects } }
     {
-        let at = o.0 as usize;
-        let cell = self.cells[at];
-        self.cells[at] = read(cell, self.epochs);
+        let epochs = self.epochs;
+        self.cells[o.0 as usize].share(epochs);
     }
 }

@@ -3,15 +3,14 @@
 ghost use Rattle.std.specs.Prelude.{◌≡◌, ◌^◌, ◌<◌, OnOk, OnErr, IfOk, length};
 ghost use Rattle.execution_definitions.specs.Refusals.{first_of, too_many_objects, too_many_calls};
 ghost use Rattle.partition_check.specs.Judged.{judged};
-ghost use Rattle.partition_check.specs.MarkedAfter.{marked_after, serializer_making, sequence_objects_making};
+ghost use Rattle.partition_check.specs.MarkedAfter.{marked_after, sequence_objects_making};
 ghost use Rattle.partition_check.specs.Represents.{RepresentsWith};
 ghost use Rattle.partition_check.specs.Answers.{Answers, AnswersMake, AnswersMakeRule, making};
 
 use super::{MOST_OBJECTS, Marks, room_for_a_call};
 use crate::cell::fresh_cell;
 use crate::fault::MarkFault;
-use execution_definitions::{By, Refusal, Serializer};
-use serializer::serializer_of;
+use execution_definitions::{By, Refusal};
 use ss_base::ObjectId;
 
 impl Marks {
@@ -32,7 +31,7 @@ impl Marks {
         if let Err(refusal) = room_for_an_object(number, self.calls) {
             return Err(MarkFault::Refused(refusal));
         }
-        let cell = fresh_cell(serializer_asked(by, self.sequence_objects));
+        let cell = fresh_cell(by, self.sequence_objects);
         let Ok(()) = self.cells.push(cell) else {
             return Err(MarkFault::OutOfMemory);
         };
@@ -50,16 +49,6 @@ fn room_for_an_object(objects: usize, calls: u64) -> Result<(), Refusal>
         return Err(Refusal::TooManyObjects);
     }
     room_for_a_call(calls)
-}
-
-// The serializer of a new object; none of a read-only one.
-fn serializer_asked(by: Option<By>, sequence_objects: u64) -> Option<Serializer>
-    ensures { result ≡ serializer_making by sequence_objects }
-{
-    match by {
-        None => None,
-        Some(by) => Some(serializer_of(by, sequence_objects)),
-    }
 }
 
 // How many objects by sequence there are with a new object.

@@ -2,6 +2,7 @@ use Rattle.std.proofs.Common.{◌≡◌, None, ◌++◌, ◌∷◌, [], length, 
 use Rattle.std.proofs.lemmas.List.{length-map, map_push}
 use Rattle.execution_definitions.specs.Refusals.{first_of, too_many_objects, too_many_calls}
 use Rattle.partition_check.specs.Answers.{making}
+use Rattle.partition_check.specs.MarkedAfter.{serializer_making}
 use Rattle.partition_check.specs.Judged.{judged_make}
 use Rattle.partition_check.specs.Represents.{Represents}
 use Rattle.partition_check.proofs.CellsLemmas.{mark_in-fresh, IsKept-push}
@@ -25,7 +26,7 @@ pub returns-clause-after : goal.returns-clause-after
 returns-clause-after c =
     let i = c.self.inside in
     let clear = mark_in-fresh i.epochs i.is_open c.fresh_cell-cell.result
-    c.serializer_asked.result c.self.invariant.first
+    (serializer_making c.args.by i.sequence_objects) c.self.invariant.first
     c.fresh_cell-cell.ensures.mark c.fresh_cell-cell.ensures.closed in
     rw (
       marked_after-making c.args.by c.args.self.now,
@@ -34,7 +35,6 @@ returns-clause-after c =
       map_push,
       clear,
       c.sequence_objects_with-self-inside.ensures,
-      c.serializer_asked.ensures,
     ) refl
 
 pub returns-clause-represents : goal.returns-clause-represents
