@@ -1,0 +1,9 @@
+pub mod Acts
+pub mod Commands
+pub mod Keywords
+pub mod Lines
+pub mod Listings
+pub mod Names
+pub mod Parts
+pub mod ScriptCalls
+pub mod Tokens

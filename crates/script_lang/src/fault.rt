@@ -1,0 +1,47 @@
+// Why a script can't be read.
+ghost use Rattle.std.specs.Prelude.{◌≡◌};
+ghost use Rattle.script_lang.specs.declared.fault.ParseFault.TheVariants as fault;
+
+use ss_base::OutOfMemory;
+
+/// What is wrong with a line. The kinds are tried in this order, and the first that holds is the
+/// line's.
+#[derive(Clone, Copy, Debug, PartialEq, Eq)]
+pub enum ScriptKind {
+    /// The first word is none of the nine command words.
+    UnknownCommand,
+    /// The words fit no shape of their command.
+    BadShape,
+    /// What an object is to be called is no name.
+    BadName,
+    /// What an object is to be called is the name of an object that a line above makes.
+    NameTaken,
+    /// No line above makes an object of this name.
+    NameUnknown,
+    /// A number or a set is ill spelt or too large.
+    BadNumber,
+}
+
+/// The first line that is wrong, counted from 1, and what is wrong with it.
+#[derive(Clone, Copy, Debug, PartialEq, Eq)]
+pub struct ScriptFault {
+    pub line: u32,
+    pub kind: ScriptKind,
+}
+
+/// Why there is no script.
+#[derive(Clone, Copy, Debug, PartialEq, Eq)]
+pub enum ParseFault {
+    /// The text is wrong.
+    Text(ScriptFault),
+    /// There was no memory.
+    OutOfMemory,
+}
+
+impl From<OutOfMemory> for ParseFault {
+    ghost from_gives = { λ _ given. given ≡ fault.OutOfMemory };
+
+    fn from(_: OutOfMemory) -> Self {
+        ParseFault::OutOfMemory
+    }
+}

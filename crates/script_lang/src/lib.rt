@@ -1,0 +1,24 @@
+//! The script language: the words, which words a script may hold, and the calls that it stands for.
+#![tactic(auto)]
+
+mod command;
+mod commands;
+mod fault;
+mod keyword;
+mod names;
+mod parsing;
+mod parts;
+mod reader;
+mod script;
+mod tokens;
+mod word32;
+mod words;
+
+pub use command::{Command, Placed};
+pub use fault::{ParseFault, ScriptFault, ScriptKind};
+pub use parsing::parse;
+pub use script::Script;
+pub use word32::{Act, Deed, Word32};
+
+#[cfg(test)]
+mod tests;
