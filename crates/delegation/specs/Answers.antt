@@ -31,6 +31,20 @@ abbrev pub sent_with : ℕ → List (List Run) → Option Run → List (List Run
 sent_with n lists None = lists
 sent_with n lists (Some run) = with_run (lane_of_set run.set.0 n) run lists
 
+-- the lane of a set has done all that was sent to it
+abbrev pub HasCaughtUp : {C R : Type 0} → RuntimeView C R → Option SetId → Type 0
+HasCaughtUp runtime None = Unit {0}
+HasCaughtUp runtime (Some set) =
+    let lane = lane_of_set set.0 runtime.delegates in
+    slice_get runtime.logs lane ≡ slice_get runtime.sent lane
+
+-- a write or a get reclaims the object: it waits for the lane that it was delegated to
+abbrev pub Reclaims :
+    {C O R : Type 0} → RuntimeView C R → RuntimeView C R → Call C O R → Type 0
+Reclaims old new (Write object op) = HasCaughtUp new (set_delegated old.marks object.0)
+Reclaims old new (Get object) = HasCaughtUp new (set_delegated old.marks object.0)
+Reclaims old new _ = Unit {0}
+
 module _ {C O R : Type 0} (m : Meaning C O R) where
   -- the run of a delegation that is accepted now
   abbrev pub run_now : RuntimeView C R → Call C O R → Option Run
@@ -45,19 +59,6 @@ module _ {C O R : Type 0} (m : Meaning C O R) where
   -- the lists sent after an accepted call
   abbrev pub sent_after : RuntimeView C R → Call C O R → List (List Run)
   sent_after runtime call = sent_with runtime.delegates runtime.sent (run_now runtime call)
-
-  -- the lane of a set has done all that was sent to it
-  abbrev pub HasCaughtUp : RuntimeView C R → Option SetId → Type 0
-  HasCaughtUp runtime None = Unit {0}
-  HasCaughtUp runtime (Some set) =
-      let lane = lane_of_set set.0 runtime.delegates in
-      slice_get runtime.logs lane ≡ slice_get runtime.sent lane
-
-  -- a write or a get reclaims the object: it waits for the lane that it was delegated to
-  abbrev pub Reclaims : RuntimeView C R → RuntimeView C R → Call C O R → Type 0
-  Reclaims old new (Write object op) = HasCaughtUp new (set_delegated old.marks object.0)
-  Reclaims old new (Get object) = HasCaughtUp new (set_delegated old.marks object.0)
-  Reclaims old new _ = Unit {0}
 
   -- an accepted call
   pub record Accepts (old new : RuntimeView C R) (call : Call C O R) : Type 0 where
