@@ -1,6 +1,6 @@
 // The cell of one object: its mark, with the epoch in which it was written.
 
-ghost use Rattle.std.specs.Prelude.{◌≡◌, ℕ, ◌<◌, Bool, true, false};
+ghost use Rattle.std.specs.Prelude.{◌≡◌, ◌==◌, ◌&&◌, ℕ, ◌<◌, Bool, true, false};
 ghost use Rattle.execution_definitions.specs.Sets.{set_under};
 ghost use Rattle.partition_check.specs.Cells.{mark_in, IsStamped};
 ghost use Rattle.partition_check.specs.Delegable.{IsFree};
@@ -9,7 +9,7 @@ ghost use Rattle.partition_check.specs.MarkedAfter.{serializer_making, fresh_mar
 use crate::mark::Mark;
 use execution_definitions::{By, Serializer};
 use serializer::serializer_of;
-use ss_base::SetId;
+use ss_base::{ObjectId, SetId};
 
 /// What is kept of one object, in 24 bytes: no object is both delegated to and read in one epoch,
 /// so one stamp tells of both.
@@ -46,22 +46,6 @@ pub fn fresh_cell(by: Option<By>, sequence_objects: u64) -> Cell
     }
 }
 
-/// The mark that a cell stands for after `epochs` epochs, the last of which is open or not.
-pub fn mark_of(cell: &Cell, epochs: u64, is_open: bool) -> Mark
-    ensures { result ≡ mark_in epochs is_open cell.now }
-{
-    let is_stamped = is_open && cell.epoch == epochs;
-    Mark {
-        serializer: serializer_in(cell.by, cell.set.0),
-        set: if is_stamped && !cell.was_read {
-            Some(cell.set)
-        } else {
-            None
-        },
-        shared: cell.by.is_some() && (is_stamped && cell.was_read),
-    }
-}
-
 // The serializer of an object; none of a read-only one.
 fn serializer_in(by: Option<By>, sequence_objects: u64) -> Option<Serializer>
     ensures { result ≡ serializer_making by sequence_objects }
@@ -73,6 +57,54 @@ fn serializer_in(by: Option<By>, sequence_objects: u64) -> Option<Serializer>
 }
 
 impl Cell {
+    /// The mark that the cell stands for after `epochs` epochs, the last of which is open or not.
+    pub fn mark(&self, epochs: u64, is_open: bool) -> Mark
+        ensures { result ≡ mark_in epochs is_open self.now }
+    {
+        Mark {
+            serializer: serializer_in(self.by, self.set.0),
+            set: self.held(epochs, is_open),
+            shared: self.is_shared(epochs, is_open),
+        }
+    }
+
+    /// The set in that mark.
+    pub fn held(&self, epochs: u64, is_open: bool) -> Option<SetId>
+        ensures { result ≡ (mark_in epochs is_open self.now).set }
+    {
+        if self.is_stamped(epochs, is_open) && !self.was_read {
+            Some(self.set)
+        } else {
+            None
+        }
+    }
+
+    /// Whether that mark is shared.
+    pub fn is_shared(&self, epochs: u64, is_open: bool) -> bool
+        ensures { result ≡ (mark_in epochs is_open self.now).shared }
+    {
+        self.by.is_some() && self.is_stamped(epochs, is_open) && self.was_read
+    }
+
+    fn is_stamped(&self, epochs: u64, is_open: bool) -> bool
+        ensures { result ≡ (is_open && (self.now.epoch == epochs)) }
+    {
+        is_open && self.epoch == epochs
+    }
+
+    /// The set of an operation on the object, which names `own`. A read-only object has none, and
+    /// the number is any.
+    pub fn set_for(&self, object: ObjectId, own: u64) -> SetId
+        ensures { result.0 ≡
+            set_under (serializer_making self.now.by self.now.set.0) object.0 own }
+    {
+        match self.by {
+            Some(By::Own) => SetId(own),
+            Some(By::Sequence) => self.set,
+            Some(By::Object) | None => SetId(u64::from(object.0)),
+        }
+    }
+
     /// Holds the object to the set of an operation in the open epoch, in which it isn't shared.
     pub fn hold(&mut self, epochs: u64, set: SetId)
         requires unshared { (mark_in epochs true self.old).shared ≡ false }

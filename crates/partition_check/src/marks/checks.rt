@@ -10,10 +10,8 @@ ghost use Rattle.partition_check.specs.Represents.{Represents, IsDelegatedTo};
 ghost use Rattle.partition_check.specs.Answers.{Answers, AnswersRule, number_read};
 
 use super::{Marks, room_for_a_call};
-use crate::cell::mark_of;
 use crate::mark::Mark;
 use execution_definitions::Refusal;
-use serializer::set_of;
 use ss_base::{ObjectId, SetId};
 
 impl Marks {
@@ -81,7 +79,7 @@ impl Marks {
         ensures { result ≡ mark_at self.now o.0 }
     {
         let cell = self.cells.get(o.0 as usize)?;
-        Some(mark_of(cell, self.epochs, self.is_open))
+        Some(cell.mark(self.epochs, self.is_open))
     }
 
     fn judge_write(&self, o: ObjectId) -> Result<(), Refusal>
@@ -110,18 +108,18 @@ impl Marks {
             Answers result (judged_delegate self.now o.0 own (number_read reading) mark) }
         ensures set { IfOk result (λ set. set.0 ≡ set_marked (mark_at self.now o.0) o.0 own) }
     {
-        let Some(mark) = self.mark(o) else {
+        let Some(cell) = self.cells.get(o.0 as usize) else {
             return Err(Refusal::UnknownObject(o));
         };
         self.judge_known(reading)?;
         if !self.is_open {
             return Err(Refusal::NotIsolating);
         }
-        let Some(serializer) = mark.serializer else {
+        if cell.by.is_none() {
             return Err(Refusal::ReadOnly(o));
-        };
-        let set = set_of(serializer, o, own);
-        if let Some(first) = mark.set
+        }
+        let set = cell.set_for(o, own);
+        if let Some(first) = cell.held(self.epochs, self.is_open)
             && first != set
         {
             return Err(Refusal::TwoSets {
@@ -130,7 +128,7 @@ impl Marks {
                 second: set,
             });
         }
-        if mark.shared {
+        if cell.is_shared(self.epochs, self.is_open) {
             return Err(Refusal::Shared(o));
         }
         if let Some(read) = reading
@@ -150,7 +148,7 @@ impl Marks {
         let Some(read) = reading else {
             return Ok(());
         };
-        if self.mark(read).is_none() {
+        if self.cells.get(read.0 as usize).is_none() {
             return Err(Refusal::UnknownObject(read));
         }
         Ok(())
@@ -163,13 +161,13 @@ impl Marks {
         let Some(read) = reading else {
             return Ok(());
         };
-        let Some(mark) = self.mark(read) else {
+        let Some(cell) = self.cells.get(read.0 as usize) else {
             return Ok(());
         };
-        if mark.serializer.is_none() {
+        if cell.by.is_none() {
             return Ok(());
         }
-        match mark.set {
+        match cell.held(self.epochs, self.is_open) {
             None => Ok(()),
             Some(set) => Err(Refusal::Private { object: read, set }),
         }

@@ -15,7 +15,7 @@ ghost use Rattle.partition_check.specs.Represents.{Represents, RepresentsWith, I
 ghost use Rattle.partition_check.specs.Answers.{Answers, AnswersRule, number_read};
 
 use super::Marks;
-use execution_definitions::{By, Refusal};
+use execution_definitions::Refusal;
 use ss_base::{ObjectId, SetId};
 
 impl Marks {
@@ -43,7 +43,7 @@ impl Marks {
         ensures unchanged { OnErr result (self.new ≡ self.old) }
     {
         let set = self.check_delegate(o, own, reading)?;
-        self.note_delegate(o, own, reading);
+        self.mark_delegation(o, set, reading);
         Ok(set)
     }
 
@@ -74,12 +74,7 @@ impl Marks {
         requires { o.0 < length self.now.objects }
         ensures { result.0 ≡ set_marked (mark_at self.now o.0) o.0 own }
     {
-        let cell = &self.cells[o.0 as usize];
-        match cell.by {
-            Some(By::Own) => SetId(own),
-            Some(By::Sequence) => cell.set,
-            Some(By::Object) | None => SetId(u64::from(o.0)),
-        }
+        self.cells[o.0 as usize].set_for(o, own)
     }
 
     // Marks and counts a delegation to this set.
