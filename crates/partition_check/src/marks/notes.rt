@@ -21,6 +21,7 @@ use ss_base::{ObjectId, SetId};
 impl Marks {
     /// Checks a delegation and, where it isn't refused, marks and counts it: `check_delegate` and
     /// `note_delegate` in one call. Ok gives the operation's set.
+    #[inline] // else each answer, which has room for a refusal, goes through memory
     pub fn delegate(
         &mut self,
         o: ObjectId,
