@@ -1,6 +1,7 @@
 pub mod CommandsLemmas
 pub mod ListingsLemmas
 pub mod NamesLemmas
+pub mod RunningLemmas
 pub mod ScriptCallsLemmas
 pub mod SpellingLemmas
 pub mod TokensLemmas

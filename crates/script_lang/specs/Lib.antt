@@ -5,5 +5,6 @@ pub mod Lines
 pub mod Listings
 pub mod Names
 pub mod Parts
+pub mod ScriptAnswers
 pub mod ScriptCalls
 pub mod Tokens

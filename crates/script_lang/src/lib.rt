@@ -9,6 +9,7 @@ mod names;
 mod parsing;
 mod parts;
 mod reader;
+mod running;
 mod script;
 mod tokens;
 mod word32;
@@ -17,6 +18,7 @@ mod words;
 pub use command::{Command, Placed};
 pub use fault::{ParseFault, ScriptFault, ScriptKind};
 pub use parsing::parse;
+pub use running::{Shown, run_script};
 pub use script::Script;
 pub use word32::{Act, Deed, Word32};
 

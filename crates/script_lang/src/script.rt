@@ -59,7 +59,7 @@ fn call_of(command: Command) -> Call<Word32>
 }
 
 // Whether an epoch is open after a command, where it was or wasn't before.
-fn is_open_after(command: Command, is_open: bool) -> bool
+pub(crate) fn is_open_after(command: Command, is_open: bool) -> bool
     ensures { result ≡ is_open_after command is_open }
 {
     match command {
@@ -74,6 +74,13 @@ impl Script {
         ensures { result ≡ record { commands = commands.items; names = names.items } }
     {
         Script { commands, names }
+    }
+
+    /// The commands, each with its line.
+    pub(crate) fn commands(&self) -> &[Placed]
+        ensures { result.now ≡ self.now.commands }
+    {
+        &self.commands
     }
 
     /// The calls of the commands in order, and an `End` where they end within an epoch.

@@ -1,0 +1,285 @@
+-- A script on a runtime, one command after the other.
+use Rattle.std.proofs.Common.{◌≡◌, ℕ, ◌+◌, ◌<◌, Bool, true, false, cond, Option, Some, None, List, [], ◌∷◌, ◌++◌, map, length, take, drop, get_or, refl, sym, ap, ap₂, ◌∙◌, subst, append-nil, append_assoc, arith}
+use Rattle.std.specs.Prelude.{fold, slice_get}
+use Rattle.std.proofs.lemmas.List.{map-append, length-map, length-take, take_more, take-append-drop, drop_more}
+use Rattle.std.proofs.lemmas.Option.{slice_get-get_or, slice_get_past}
+use Rattle.std.proofs.Math.Seq.{take-append_seam}
+use Rattle.class_laws.specs.declared.numbers.WrapSum.{WrapSum}
+use Rattle.execution_definitions.specs.declared.refusal.Refusal.{Refusal}
+use Rattle.execution_definitions.specs.Shapes.{Shape}
+use Rattle.execution_definitions.specs.Epochs.{isolating}
+use Rattle.execution_definitions.specs.Soundness.{first_break, first_refusal}
+use Rattle.execution_definitions.proofs.EpochsLemmas.{isolating-within, isolating-begin, isolating-end}
+use Rattle.execution_definitions.proofs.SoundnessLemmas.{first_break-at, first_refusal-at}
+use Rattle.delegation.specs.declared.call.Call.TheVariants as call
+use Rattle.delegation.specs.declared.call.Fault.{Fault}
+use Rattle.delegation.specs.declared.call.Fault.TheVariants.{Refused}
+use Rattle.delegation.specs.Meanings.{shape_of, shapes_of}
+use Rattle.delegation.specs.Sequential.{State, initial_state, state_after, sequential_state}
+use Rattle.delegation.specs.Sequential.{reply_of, replies_from, sequential_replies}
+use Rattle.delegation.specs.Runtimes.{RuntimeView, IsAfter}
+use Rattle.delegation.specs.Answers.{FailsList}
+use Rattle.delegation.specs.Programs.{front_before, sound_front}
+use Rattle.script_lang.specs.declared.word32.Word32.{Word32}
+use Rattle.script_lang.specs.declared.command.Command.{Command}
+use Rattle.script_lang.specs.declared.command.Command.TheVariants.{Make, MakeFixed, Begin, End}
+use Rattle.script_lang.specs.declared.command.Command.TheVariants.{Delegate, Write, Get, Total}
+use Rattle.script_lang.specs.declared.command.Placed.{Placed}
+use Rattle.script_lang.specs.Acts.{own_set}
+use Rattle.script_lang.specs.Listings.{Listing}
+use Rattle.script_lang.specs.ScriptCalls.{ScriptCall, call_of, calls_of, listed_calls}
+use Rattle.script_lang.specs.ScriptCalls.{ends_within_epoch, ended, is_open_after}
+use Rattle.script_lang.proofs.ScriptCallsLemmas.{ended-open, ended-closed}
+use Rattle.script_lang.specs.ScriptAnswers.{ShownRecord, script_meaning, shown_line, shown_lines}
+use Rattle.script_lang.specs.ScriptAnswers.{line_at, stop_at, shown_of}
+
+-- ---- the calls of the first commands, and what is left
+
+length_take_at : {A : Type 0} (i : ℕ) (items : List A) → i < length items →
+    length (take i items) ≡ i
+length_take_at i items h = omega (arith, h, length-take i items)
+
+-- one command more
+listed-more : (items : List Placed) (i : ℕ) (d : Placed) → i < length items →
+    listed_calls (take (i + 1) items)
+    ≡ listed_calls (take i items) ++ call_of (get_or items i d).command ∷ []
+listed-more items i d h =
+    ap listed_calls (take_more items i d h)
+    ∙ map-append (λ placed. call_of placed.command) (take i items) (get_or items i d ∷ [])
+
+-- an epoch is open after one command more
+open-more : (calls : List ScriptCall) (command : Command) →
+    ends_within_epoch (calls ++ call_of command ∷ [])
+    ≡ is_open_after command (ends_within_epoch calls)
+open-more calls command =
+    ap isolating (map-append (shape_of own_set) calls (call_of command ∷ []))
+    ∙ judged (map (shape_of own_set) calls) command where
+      judged : (shapes : List Shape) (command : Command) →
+          isolating (shapes ++ shape_of own_set (call_of command) ∷ [])
+          ≡ is_open_after command (isolating shapes)
+      judged shapes (Make value by) = isolating-within shapes _ (record { no_begin = refl; no_end = refl })
+      judged shapes (MakeFixed value) = isolating-within shapes _ (record { no_begin = refl; no_end = refl })
+      judged shapes Begin = isolating-begin shapes
+      judged shapes End = isolating-end shapes
+      judged shapes (Delegate object deed reading) = isolating-within shapes _ (record { no_begin = refl; no_end = refl })
+      judged shapes (Write object deed) = isolating-within shapes _ (record { no_begin = refl; no_end = refl })
+      judged shapes (Get object) = isolating-within shapes _ (record { no_begin = refl; no_end = refl })
+      judged shapes Total = isolating-within shapes _ (record { no_begin = refl; no_end = refl })
+
+pub open-in : (items : List Placed) (i : ℕ) (d : Placed) (is_open : Bool) → i < length items →
+    is_open ≡ ends_within_epoch (listed_calls (take i items)) →
+    is_open_after (get_or items i d).command is_open
+    ≡ ends_within_epoch (listed_calls (take (i + 1) items))
+open-in items i d is_open h is =
+    ap (is_open_after (get_or items i d).command) is
+    ∙ sym (open-more (listed_calls (take i items)) (get_or items i d).command)
+    ∙ ap ends_within_epoch (sym (listed-more items i d h))
+
+-- a script's calls are those of its commands, and perhaps more
+calls_of-more : (listing : Listing) →
+    (extra : List ScriptCall) × (calls_of listing ≡ listed_calls listing.commands ++ extra)
+unfolding ended
+calls_of-more listing =
+    let calls = listed_calls listing.commands in
+    elim (ends_within_epoch calls) as (λ is_open. (extra : List ScriptCall)
+    × (cond is_open (calls ++ call.End ∷ []) calls ≡ calls ++ extra)) [
+      | true ↦ (call.End ∷ [], refl)
+      | false ↦ ([], sym (append-nil calls))
+    ]
+
+-- ---- one call more shows one line more
+
+shown_lines-more : (names : List (List ℕ)) (state : State Word32 WrapSum) (number : ℕ)
+    (calls : List ScriptCall) (call : ScriptCall) →
+    shown_lines names (calls ++ call ∷ [])
+    (replies_from script_meaning state number (calls ++ call ∷ []))
+    ≡ shown_lines names calls (replies_from script_meaning state number calls)
+    ++ shown_line names call (reply_of script_meaning
+    (fold (state_after script_meaning) state calls) (number + length calls) call)
+shown_lines-more names state number [] call =
+    let same : number ≡ number + 0 = omega arith in
+    append-nil (shown_line names call (reply_of script_meaning state number call))
+    ∙ ap (λ n. shown_line names call (reply_of script_meaning state n call)) same
+shown_lines-more names state number (first ∷ rest) call =
+    let same : number + 1 + length rest ≡ number + length (first ∷ rest) = omega arith in
+    let next = state_after script_meaning state first in
+    let line = shown_line names first (reply_of script_meaning state number first) in
+    let lines = shown_lines names rest (replies_from script_meaning next (number + 1) rest) in
+    let last : ℕ → List ℕ = λ n. shown_line names call (reply_of script_meaning
+    (fold (state_after script_meaning) next rest) n call) in
+    ap (λ more. line ++ more) (shown_lines-more names next (number + 1) rest call)
+    ∙ sym (append_assoc line lines (last (number + 1 + length rest)))
+    ∙ ap (λ n. (line ++ lines) ++ last n) same
+
+shown_lines-push : (names : List (List ℕ)) (calls : List ScriptCall) (call : ScriptCall) →
+    shown_lines names (calls ++ call ∷ [])
+    (sequential_replies script_meaning (calls ++ call ∷ []))
+    ≡ shown_lines names calls (sequential_replies script_meaning calls)
+    ++ shown_line names call (reply_of script_meaning
+    (sequential_state script_meaning calls) (length calls) call)
+shown_lines-push names calls call =
+    let same : 0 + length calls ≡ length calls = omega arith in
+    shown_lines-more names (initial_state script_meaning) 0 calls call
+    ∙ ap (λ n. shown_lines names calls (sequential_replies script_meaning calls)
+    ++ shown_line names call (reply_of script_meaning
+    (sequential_state script_meaning calls) n call)) same
+
+-- what calls show with the replies of the program
+abbrev shown_by : List (List ℕ) → List ScriptCall → List ℕ
+shown_by names calls = shown_lines names calls (sequential_replies script_meaning calls)
+
+abbrev told : List ℕ → Option (ℕ × Refusal) → ShownRecord
+told text stopped = record { text = text; stopped = stopped }
+
+module _ (listing : Listing) where
+  -- a runtime took these calls, and they showed this text
+  pub record OnWay (runtime : RuntimeView Word32 WrapSum) (made : List ScriptCall)
+      (text : List ℕ) : Type 0 where
+    pub after : IsAfter script_meaning runtime made
+    pub shown : text ≡ shown_lines listing.names made (sequential_replies script_meaning made)
+
+  -- a runtime made what it could of the script
+  pub record HasShown (runtime : RuntimeView Word32 WrapSum) (shows : ShownRecord)
+      : Type 0 where
+    pub after : IsAfter script_meaning runtime (sound_front script_meaning (calls_of listing))
+    pub shown : shows ≡ shown_of listing
+
+  -- an accepted call
+  goes : (old new : RuntimeView Word32 WrapSum) (made : List ScriptCall) (text : List ℕ)
+      (call : ScriptCall) → OnWay old made text → IsAfter script_meaning new (made ++ call ∷ []) →
+      OnWay new (made ++ call ∷ []) (text ++ shown_line listing.names call
+      (reply_of script_meaning old.state old.marks.calls call))
+  goes old new made text call way at =
+      let number = way.after.marks.call_count ∙ length-map made (shape_of own_set) in
+      record {
+        after = at;
+        shown = rw (way.after.state, number, way.shown)
+            (sym (shown_lines-push listing.names made call));
+      }
+
+  -- a refused call, which stands on this line
+  stops : (old new : RuntimeView Word32 WrapSum) (made : List ScriptCall) (text : List ℕ)
+      (call : ScriptCall) (rest : List ScriptCall) (fault : Fault) (refusal : Refusal) (line : ℕ) →
+      calls_of listing ≡ made ++ call ∷ rest → OnWay old made text →
+      fault ≡ Refused refusal → FailsList script_meaning new made call fault →
+      line ≡ line_at listing (length made) →
+      HasShown new (record { text = text; stopped = Some (line, refusal) })
+  stops old new made text call rest fault refusal line is way is_refused fails on_line =
+      let refused = subst (FailsList script_meaning new made call) is_refused fails in
+      let broken = refused.0 in
+      let sound = way.after.marks.sound in
+      let shapes : shapes_of script_meaning (calls_of listing)
+      ≡ shapes_of script_meaning made ++ shape_of own_set call ∷ shapes_of script_meaning rest =
+      ap (shapes_of script_meaning) is ∙ map-append (shape_of own_set) made (call ∷ rest) in
+      let place : first_break (shapes_of script_meaning (calls_of listing)) ≡ Some (length made) =
+      ap first_break shapes
+      ∙ first_break-at (shapes_of script_meaning made) (shape_of own_set call)
+      (shapes_of script_meaning rest) refusal sound broken
+      ∙ ap Some (length-map made (shape_of own_set)) in
+      let first : first_refusal (shapes_of script_meaning (calls_of listing)) ≡ Some refusal =
+      ap first_refusal shapes
+      ∙ first_refusal-at (shapes_of script_meaning made) (shape_of own_set call)
+      (shapes_of script_meaning rest) refusal sound broken in
+      let front : sound_front script_meaning (calls_of listing) ≡ made =
+      ap (λ at. front_before at (calls_of listing)) place
+      ∙ ap (λ calls. take (length made) calls) is
+      ∙ take-append_seam made (call ∷ rest) in
+      record {
+        after = subst (λ calls. IsAfter script_meaning new calls) (sym front) refused.1;
+        shown = ap₂ told (way.shown ∙ ap (shown_by listing.names) (sym front))
+            (ap (λ line. Some (line, refusal)) on_line ∙ sym (ap₂ (stop_at listing) place first));
+      }
+
+  -- no call was refused
+  ends : (new : RuntimeView Word32 WrapSum) (made : List ScriptCall) (text : List ℕ) →
+      calls_of listing ≡ made → OnWay new made text →
+      HasShown new (record { text = text; stopped = None })
+  ends new made text is way =
+      let sound : first_break (shapes_of script_meaning (calls_of listing)) ≡ None =
+      ap (λ calls. first_break (shapes_of script_meaning calls)) is ∙ way.after.marks.sound in
+      let front : sound_front script_meaning (calls_of listing) ≡ made =
+      ap (λ at. front_before at (calls_of listing)) sound ∙ is in
+      record {
+        after = subst (λ calls. IsAfter script_meaning new calls) (sym front) way.after;
+        shown = ap₂ told (way.shown ∙ ap (shown_by listing.names) (sym front))
+            (ap (λ place. stop_at listing place
+            (first_refusal (shapes_of script_meaning (calls_of listing)))) (sym sound));
+      }
+
+  -- a command of the script was accepted
+  pub goes-in : (items : List Placed) (i : ℕ) (d : Placed) → i < length items →
+      (old new : RuntimeView Word32 WrapSum) (text longer : List ℕ) →
+      OnWay old (listed_calls (take i items)) text →
+      IsAfter script_meaning new
+      (listed_calls (take i items) ++ call_of (get_or items i d).command ∷ []) →
+      longer ≡ text ++ shown_line listing.names (call_of (get_or items i d).command)
+      (reply_of script_meaning old.state old.marks.calls (call_of (get_or items i d).command)) →
+      OnWay new (listed_calls (take (i + 1) items)) longer
+  goes-in items i d h old new text longer way at more =
+      rw (listed-more items i d h, more) (goes old new (listed_calls (take i items)) text
+      (call_of (get_or items i d).command) way at)
+
+  -- a command of the script was refused
+  pub stops-in : (items : List Placed) → items ≡ listing.commands →
+      (i : ℕ) (d : Placed) → i < length items →
+      (old new : RuntimeView Word32 WrapSum) (text : List ℕ) (fault : Fault) (refusal : Refusal) →
+      OnWay old (listed_calls (take i items)) text → fault ≡ Refused refusal →
+      FailsList script_meaning new (listed_calls (take i items))
+      (call_of (get_or items i d).command) fault →
+      HasShown new (record { text = text; stopped = Some ((get_or items i d).line, refusal) })
+  stops-in items are i d h old new text fault refusal way is_refused fails =
+      let made = listed_calls (take i items) in
+      let this = call_of (get_or items i d).command in
+      let left = listed_calls (drop (i + 1) items) in
+      let more = calls_of-more listing in
+      let split : items ≡ take i items ++ get_or items i d ∷ drop (i + 1) items =
+      sym (take-append-drop i items) ∙ ap (λ rest. take i items ++ rest) (drop_more items i d h) in
+      let listed : listed_calls listing.commands ≡ made ++ this ∷ left =
+      ap listed_calls (sym are ∙ split)
+      ∙ map-append (λ placed. call_of placed.command) (take i items)
+      (get_or items i d ∷ drop (i + 1) items) in
+      let whole : calls_of listing ≡ made ++ this ∷ (left ++ more.0) =
+      more.1 ∙ ap (λ calls. calls ++ more.0) listed ∙ append_assoc made (this ∷ left) more.0 in
+      let count : length made ≡ i =
+      length-map (take i items) (λ placed. call_of placed.command)
+      ∙ length_take_at i items h in
+      let placed : slice_get listing.commands i ≡ Some (get_or items i d) =
+      ap (λ commands. slice_get commands i) (sym are) ∙ slice_get-get_or items i d h in
+      stops old new made text this (left ++ more.0) fault refusal (get_or items i d).line whole way
+      is_refused fails (rw (count, placed) refl)
+
+  -- the end that the script lacks was refused
+  pub stops-end : (old new : RuntimeView Word32 WrapSum) (text : List ℕ) (fault : Fault)
+      (refusal : Refusal) → ends_within_epoch (listed_calls listing.commands) ≡ true →
+      OnWay old (listed_calls listing.commands) text → fault ≡ Refused refusal →
+      FailsList script_meaning new (listed_calls listing.commands) call.End fault →
+      HasShown new (record { text = text; stopped = Some (0, refusal) })
+  stops-end old new text fault refusal is_open way is_refused fails =
+      let made = listed_calls listing.commands in
+      let count : length made ≡ length listing.commands =
+      length-map listing.commands (λ placed. call_of placed.command) in
+      let none : slice_get listing.commands (length listing.commands) ≡ None =
+      slice_get_past listing.commands (length listing.commands) (omega arith) in
+      stops old new made text call.End [] fault refusal 0 (ended-open made is_open) way
+      is_refused fails (rw (count, none) refl)
+
+  -- the end that the script lacks was accepted
+  pub ends-open : (old new : RuntimeView Word32 WrapSum) (text longer : List ℕ) →
+      ends_within_epoch (listed_calls listing.commands) ≡ true →
+      OnWay old (listed_calls listing.commands) text →
+      IsAfter script_meaning new (listed_calls listing.commands ++ call.End ∷ []) →
+      longer ≡ text ++ [] →
+      HasShown new (record { text = longer; stopped = None })
+  ends-open old new text longer is_open way at same =
+      let made = listed_calls listing.commands in
+      ends new (made ++ call.End ∷ []) longer (ended-open made is_open)
+      (rw same (goes old new made text call.End way at))
+
+  -- the script lacks no end
+  pub ends-closed : (new : RuntimeView Word32 WrapSum) (text : List ℕ) →
+      ends_within_epoch (listed_calls listing.commands) ≡ false →
+      OnWay new (listed_calls listing.commands) text →
+      HasShown new (record { text = text; stopped = None })
+  ends-closed new text is_closed way =
+      let made = listed_calls listing.commands in
+      ends new made text (ended-closed made is_closed) way

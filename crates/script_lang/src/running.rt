@@ -1,0 +1,162 @@
+// A script on a runtime.
+ghost use Rattle.std.specs.Prelude.{◌≡◌, [], ◌∷◌, ◌++◌, Err, IfOk, OnOk, decimal};
+ghost use Rattle.delegation.specs.declared.call.Fault.TheVariants as fault;
+ghost use Rattle.delegation.specs.Sequential.{reply_of};
+ghost use Rattle.delegation.specs.Runtimes.{IsAfter};
+ghost use Rattle.delegation.specs.Answers.{Follows};
+ghost use Rattle.delegation.specs.Programs.{sound_front};
+ghost use Rattle.script_lang.specs.ScriptCalls.{call_of, calls_of, is_open_after};
+ghost use Rattle.script_lang.specs.ScriptAnswers.{script_meaning, value_line, total_line};
+ghost use Rattle.script_lang.specs.ScriptAnswers.{shown_line, shown_of};
+
+use crate::command::{Command, Placed};
+use crate::script::{Script, is_open_after};
+use crate::word32::Word32;
+use delegation::{Delegation, Fault};
+use execution_definitions::Refusal;
+use itoa::Buffer;
+use ss_base::OutOfMemory;
+use std::alloc::Global;
+use std::marker::Model;
+use std::sync::Wait;
+use std::thread::Threads;
+
+/// What a script shows, and where it stops.
+#[derive(Drop, Debug)]
+pub struct Shown {
+    /// A line for each `show` and each `total` before the stop.
+    pub text: Vec<u8>,
+    /// The line and the refusal of the call that was refused, if one was.
+    pub stopped: Option<(u32, Refusal)>,
+}
+
+impl Model for Shown {
+    ghost use Rattle.script_lang.specs.ScriptAnswers.{ShownRecord};
+
+    ghost Value = { ShownRecord };
+
+    ghost view = { λ shown. record { text = shown.text.items; stopped = shown.stopped } };
+}
+
+// Appends a number in decimal, and the end of the line.
+fn push_number(text: &mut Vec<u8>, number: u64) -> Result<(), OutOfMemory>
+    ensures { OnOk result (text.new.items ≡ text.old.items ++ decimal number ++ 10 ∷ []) }
+{
+    let mut buffer = Buffer::new();
+    text.extend_from_slice(buffer.format(number).as_bytes())?;
+    text.push(b'\n')?;
+    Ok(())
+}
+
+// Appends the line of an object's value.
+#[tactic(auto, unfolding(crate::specs::ScriptAnswers::value_line))]
+fn push_value(text: &mut Vec<u8>, name: &str, value: u32) -> Result<(), OutOfMemory>
+    ensures { OnOk result (text.new.items ≡ text.old.items ++ value_line name.now value) }
+{
+    text.extend_from_slice(name.as_bytes())?;
+    text.push(b' ')?;
+    push_number(text, u64::from(value))
+}
+
+// Appends the line of the total.
+#[tactic(auto, unfolding(crate::specs::ScriptAnswers::total_line))]
+fn push_total(text: &mut Vec<u8>, value: u64) -> Result<(), OutOfMemory>
+    ensures { OnOk result (text.new.items ≡ text.old.items ++ total_line value) }
+{
+    text.extend_from_slice(b"total ")?;
+    push_number(text, value)
+}
+
+// Makes the call of a command, and appends what it shows. A refused call shows nothing.
+fn run_command<D: Delegation<Word32>, R: Threads + Wait + Copy + Send + Sync + 'static>(
+    rt: &R,
+    d: &mut D,
+    script: &Script,
+    command: Command,
+    text: &mut Vec<u8>,
+) -> Result<(), Fault>
+    ensures follows { Follows script_meaning (D.seen d.old) (D.seen d.new) (call_of command) result }
+    ensures text { OnOk result (text.new.items ≡ text.old.items
+        ++ shown_line script.now.names (call_of command) (reply_of script_meaning
+        (D.seen d.old).state (D.seen d.old).marks.calls (call_of command))) }
+    ensures refused { (refusal : Refusal) → result ≡ Err (fault.Refused refusal)
+        → text.new.items ≡ text.old.items }
+{
+    match command {
+        Command::Make { value, by } => {
+            d.make(Word32(value), by)?;
+        }
+        Command::MakeFixed { value } => {
+            d.make_fixed(Word32(value))?;
+        }
+        Command::Begin => d.begin()?,
+        Command::End => d.end(rt)?,
+        Command::Delegate {
+            object,
+            deed,
+            reading,
+        } => {
+            d.delegate(rt, object, deed, reading)?;
+        }
+        Command::Write { object, deed } => d.call(rt, object, deed)?,
+        Command::Get { object } => {
+            let value = d.get(rt, object)?.0;
+            let name = script.name(object).unwrap_or("");
+            push_value(text, name, value).or(Err(Fault::OutOfMemory))?;
+        }
+        Command::Total => {
+            let total = d.total()?.0;
+            push_total(text, total).or(Err(Fault::OutOfMemory))?;
+        }
+    }
+    Ok(())
+}
+
+/// Makes the calls of a script in their order, up to the first that is refused, and gives what they
+/// show. The runtime is a new one. An `End` that the script lacks is made too.
+///
+/// The values and the total shown are those of the program without delegates, and the refusal is
+/// that of the first call that breaks the partition rule.
+pub fn run_script<D: Delegation<Word32>, R: Threads + Wait + Copy + Send + Sync + 'static>(
+    rt: &R,
+    alloc: Global,
+    d: &mut D,
+    script: &Script,
+) -> Result<Shown, OutOfMemory>
+    requires { IsAfter script_meaning (D.seen d.old) [] }
+    ensures shown { IfOk result (λ shown. shown ≡ shown_of script.now) }
+    ensures after { IfOk result (λ shown. IsAfter script_meaning (D.seen d.new)
+        (sound_front script_meaning (calls_of script.now))) }
+{
+    let mut text = Vec::new(alloc);
+    let mut is_open = false;
+    for placed in script.commands() {
+        match run_command(rt, d, script, placed.command, &mut text) {
+            Ok(()) => is_open = is_open_after(placed.command, is_open),
+            Err(Fault::Refused(refusal)) => {
+                return Ok(Shown {
+                    text,
+                    stopped: Some((placed.line, refusal)),
+                });
+            }
+            Err(Fault::OutOfMemory) => return Err(OutOfMemory),
+        }
+    }
+    if is_open {
+        match run_command(rt, d, script, Command::End, &mut text) {
+            Ok(()) => {}
+            Err(Fault::Refused(refusal)) => {
+                // Of all calls this one stands on no line.
+                return Ok(Shown {
+                    text,
+                    stopped: Some((0, refusal)),
+                });
+            }
+            Err(Fault::OutOfMemory) => return Err(OutOfMemory),
+        }
+    }
+    Ok(Shown {
+        text,
+        stopped: None,
+    })
+}
