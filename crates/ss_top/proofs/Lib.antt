@@ -1,5 +1,5 @@
-pub mod CommandLineLemmas
 pub mod GeneratedLemmas
 pub mod LimitsLemmas
+pub mod LinesLemmas
 pub mod PartsLemmas
 pub mod RunsLemmas

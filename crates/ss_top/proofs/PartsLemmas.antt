@@ -67,3 +67,24 @@ five_parts a b c d e m n second fourth =
     rw (second, fourth, append-nil)
     (sym (append_assoc (a ++ m ++ c) n e ∙ append_assoc (a ++ m) c (n ++ e)
     ∙ append_assoc a m (c ++ (n ++ e))))
+
+-- the texts of a line that speak of an object: with no number, with one, and with two
+pub object_parts :
+    (a b c o n w e m p : List ℕ) → b ≡ m → n ≡ p
+    → a ++ (b ++ (c ++ (o ++ (n ++ (w ++ (e ++ [])))))) ≡ a ++ m ++ c ++ (o ++ p ++ w) ++ e
+object_parts a b c o n w e m p number name =
+    rw (number, name) (simp (append_assoc, append-nil))
+
+pub private_parts :
+    (a b c o n w s e m p q : List ℕ) → b ≡ m → n ≡ p → s ≡ q
+    → a ++ (b ++ (c ++ (o ++ (n ++ (w ++ (s ++ (e ++ [])))))))
+    ≡ a ++ m ++ c ++ (o ++ p ++ w ++ q) ++ e
+private_parts a b c o n w s e m p q number name set =
+    rw (number, name, set) (simp (append_assoc, append-nil))
+
+pub two_sets_parts :
+    (a b c o n w s v t e m p q r : List ℕ) → b ≡ m → n ≡ p → s ≡ q → t ≡ r
+    → a ++ (b ++ (c ++ (o ++ (n ++ (w ++ (s ++ (v ++ (t ++ (e ++ [])))))))))
+    ≡ a ++ m ++ c ++ (o ++ p ++ w ++ q ++ v ++ r) ++ e
+two_sets_parts a b c o n w s v t e m p q r number name first second =
+    rw (number, name, first, second) (simp (append_assoc, append-nil))

@@ -1,12 +1,14 @@
--- When a run owes no text.
-use Rattle.std.proofs.Common.{◌≡◌}
+-- What a run owes that has no text to print.
+use Rattle.std.proofs.Common.{◌≡◌, ℕ, List}
 use Rattle.std.specs.Prelude.{Some, None}
 use Rattle.std.specs.declared.option.Option.{Option}
 use Rattle.ss_base.specs.Shelves.{Contents}
 use Rattle.ss_top.specs.declared.status.Status.{Status}
+use Rattle.ss_top.specs.declared.status.Status.TheVariants.{Limit, Text}
 use Rattle.ss_top.specs.declared.status.LimitHit.{LimitHit}
-use Rattle.ss_top.specs.Answers.{Answer, over_limit}
-use Rattle.ss_top.specs.Runs.{IfTold, Completes}
+use Rattle.ss_top.specs.declared.status.TextFault.{TextFault}
+use Rattle.ss_top.specs.Answers.{Answer, over_limit, has_fault}
+use Rattle.ss_top.specs.Runs.{IfTold, Meets, Completes}
 
 -- where the shelf's count rose
 pub Completes-rose :
@@ -26,3 +28,29 @@ pub Completes-limit :
 Completes-limit None answer status hit shelf_rose out_rose limit = tt
 Completes-limit (Some contents) answer status hit shelf_rose out_rose limit =
     λ text expected shelf_stood out_stood. cc
+
+pub Meets-limit :
+    (told : Option Contents) (answer : Contents → Option Answer) (status : Status) (hit : LimitHit)
+    (before after left : Option (List ℕ)) (out_rose : Type 0)
+    → status ≡ Limit hit → IfTold told (λ contents. answer contents ≡ Some (over_limit hit))
+    → IfTold told (λ contents. Meets (answer contents) status before after left out_rose)
+Meets-limit None answer status hit before after left out_rose is limit = tt
+Meets-limit (Some contents) answer status hit before after left out_rose is limit = rw is limit
+
+-- where the fault of a text is called for
+pub Completes-fault :
+    (told : Option Contents) (answer : Contents → Option Answer) (status : Status)
+    (fault : TextFault) (shelf_rose out_rose : Type 0)
+    → IfTold told (λ contents. answer contents ≡ Some (has_fault fault))
+    → IfTold told (λ contents. Completes (answer contents) status shelf_rose out_rose)
+Completes-fault None answer status fault shelf_rose out_rose bad = tt
+Completes-fault (Some contents) answer status fault shelf_rose out_rose bad =
+    λ text expected shelf_stood out_stood. cc
+
+pub Meets-fault :
+    (told : Option Contents) (answer : Contents → Option Answer) (status : Status)
+    (fault : TextFault) (before after left : Option (List ℕ)) (out_rose : Type 0)
+    → status ≡ Text fault → IfTold told (λ contents. answer contents ≡ Some (has_fault fault))
+    → IfTold told (λ contents. Meets (answer contents) status before after left out_rose)
+Meets-fault None answer status fault before after left out_rose is bad = tt
+Meets-fault (Some contents) answer status fault before after left out_rose is bad = rw is bad

@@ -5,3 +5,4 @@ pub mod Generated
 pub mod Answers
 pub mod Texts
 pub mod Runs
+pub mod Printings

@@ -1,4 +1,5 @@
--- Which limit do documents meet first, where they are read byte by byte, one behind the other?
+-- How much may documents and scripts have, and which limit do documents meet first, where they are
+-- read byte by byte, one behind the other?
 --
 -- A document is over its own limit at its byte number 8,388,609, and the documents up to it are
 -- over theirs at the byte that passes 67,108,864. Where both come at one byte, the document's own
@@ -20,6 +21,14 @@ document_limit = 8388608
 -- the most bytes of all documents
 abbrev pub all_documents_limit : ℕ
 all_documents_limit = 67108864
+
+-- the most bytes of a script
+abbrev pub script_bytes_limit : ℕ
+script_bytes_limit = 1048576
+
+-- the most lines of a script
+abbrev pub script_lines_limit : ℕ
+script_lines_limit = 65536
 
 -- the limit that a document of this number passes, with so many bytes left of those for all
 abbrev pub limit_with : ℕ → ℕ → LimitHit

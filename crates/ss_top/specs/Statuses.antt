@@ -1,9 +1,10 @@
--- With which number does the program end?
-use Rattle.std.specs.Prelude.{ℕ}
+-- With which number does the program end, and on which statuses may `out` have gained something?
+use Rattle.std.specs.Prelude.{ℕ, Bool, true, false}
 use Rattle.ss_top.specs.declared.status.Status.{Status}
 use Rattle.ss_top.specs.declared.status.Status.TheVariants.{Done, Usage, ReadFault, WriteFault}
-use Rattle.ss_top.specs.declared.status.Status.TheVariants.{OutOfMemory, Limit}
+use Rattle.ss_top.specs.declared.status.Status.TheVariants.{OutOfMemory, Limit, Refused, Text}
 
+-- the number with which the program ends
 abbrev pub code_of : Status → ℕ
 code_of Done = 0
 code_of Usage = 2
@@ -11,3 +12,12 @@ code_of (ReadFault which) = 3
 code_of WriteFault = 4
 code_of OutOfMemory = 5
 code_of (Limit hit) = 6
+code_of (Refused line refusal) = 7
+code_of (Text fault) = 8
+
+-- a text was written, whole or in part
+abbrev pub has_written : Status → Bool
+has_written Done = true
+has_written WriteFault = true
+has_written (Refused line refusal) = true
+has_written _ = false

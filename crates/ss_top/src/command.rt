@@ -1,6 +1,7 @@
 // The command that the words of a command line are.
 ghost use Rattle.std.specs.Prelude.{◌≡◌, ◌↔◌, None, Some, map, string_bytes, IfOk};
-ghost use Rattle.ss_top.specs.CommandLine.{asks_for_input, outcome};
+ghost use Rattle.std.specs.Option.{option_copied};
+ghost use Rattle.ss_top.specs.CommandLine.{asks_for_input, is_input_name, script_name, outcome};
 ghost use Rattle.ss_top.specs.declared.command.WordsFault.TheVariants as fault;
 
 use ss_base::{OutOfMemory, Text};
@@ -11,6 +12,8 @@ use std::alloc::Global;
 pub enum Command {
     /// Prints the index of the document under this name. The name `-` is standard input.
     Index { name: Text },
+    /// Runs the script under this name. The name `-` is standard input.
+    Script { name: Text },
 }
 
 /// Why words gave no command.
@@ -40,14 +43,41 @@ fn asks_for_input(words: &[String]) -> bool
     }
 }
 
+// Whether the word can name an input.
+fn is_input_name(word: &str) -> bool
+    ensures { result ≡ is_input_name word.now }
+{
+    match word.as_bytes() {
+        [] => false,
+        [_] => true,
+        [first, ..] => *first != b'-',
+    }
+}
+
+// The name in the words `script NAME`.
+fn script_name(words: &[String]) -> Option<&str>
+    ensures { option_copied result ≡ script_name (map string_bytes words.now) }
+{
+    match words {
+        [command, name] if command.as_str() == "script" && is_input_name(name.as_str()) => {
+            Some(name.as_str())
+        }
+        _ => None,
+    }
+}
+
 /// The command that the words after the program's name are.
 pub fn command_of(alloc: Global, words: &[String]) -> Result<Command, WordsFault>
     ensures ok { IfOk result (λ command. outcome (map string_bytes words.now) ≡ Some command) }
     ensures usage { (result ≡ Err WordsFault.Usage) ↔ (outcome (map string_bytes words.now) ≡ None) }
 {
-    if !asks_for_input(words) {
-        return Err(WordsFault::Usage);
+    if asks_for_input(words) {
+        let name = Text::of(alloc, "-")?;
+        return Ok(Command::Index { name });
     }
-    let name = Text::of(alloc, "-")?;
-    Ok(Command::Index { name })
+    let Some(name) = script_name(words) else {
+        return Err(WordsFault::Usage);
+    };
+    let name = Text::of(alloc, name)?;
+    Ok(Command::Script { name })
 }

@@ -11,7 +11,7 @@ mod top;
 
 pub use command::{Command, WordsFault, command_of};
 pub use generate::{GenFault, gen_documents};
-pub use status::{LimitHit, Status, Which};
+pub use status::{LimitHit, Status, TextFault, Which};
 pub use tell::{tell_memory, tell_usage};
 pub use top::run;
 

@@ -2,6 +2,9 @@
 ghost use Rattle.std.specs.Prelude.{◌≡◌};
 ghost use Rattle.ss_top.specs.Statuses.{code_of};
 
+use execution_definitions::Refusal;
+use script_lang::{Script, ScriptFault};
+
 /// An input of a command. Names count from 1.
 #[derive(Clone, Copy, Debug, PartialEq, Eq)]
 pub enum Which {
@@ -34,6 +37,13 @@ pub enum LimitHit {
     ScheduleBytes,
 }
 
+/// What is wrong with the text of an input.
+#[derive(Clone, Copy, Debug, PartialEq, Eq)]
+pub enum TextFault {
+    /// The first bad line of a script.
+    Script(ScriptFault),
+}
+
 /// How a run ended.
 #[derive(Clone, Copy, Debug, PartialEq, Eq)]
 pub enum Status {
@@ -49,6 +59,15 @@ pub enum Status {
     OutOfMemory,
     /// A limit was passed.
     Limit(LimitHit),
+    /// The script on this line breaks the partition rule.
+    Refused {
+        /// The line of the first call that is refused, counted from 1.
+        line: u32,
+        /// Why it is refused.
+        refusal: Refusal,
+    },
+    /// The text of an input is wrong.
+    Text(TextFault),
 }
 
 impl Status {
@@ -63,6 +82,16 @@ impl Status {
             Status::WriteFault => 4,
             Status::OutOfMemory => 5,
             Status::Limit(_) => 6,
+            Status::Refused { .. } => 7,
+            Status::Text(_) => 8,
         }
     }
+}
+
+/// How a command ended, and the script that broke the partition rule if one did, since the names of
+/// its objects are told.
+#[derive(Drop)]
+pub(crate) struct Ended {
+    pub status: Status,
+    pub script: Option<Script>,
 }

@@ -6,10 +6,16 @@ ghost use Rattle.ss_base.specs.Sinks.{GainsAll};
 ghost use Rattle.ss_top.specs.Runs.{Tells};
 ghost use Rattle.ss_top.specs.Texts.{name_text, status_text, limit_text, usage_text};
 ghost use Rattle.ss_top.specs.Texts.{memory_text, read_fault_text, document_text};
+ghost use Rattle.ss_top.specs.Texts.{line_text, kind_text, fault_text, object_name, object_text};
+ghost use Rattle.ss_top.specs.Texts.{two_sets_text, private_text, refusal_text};
+ghost use Rattle.ss_top.specs.Printings.{script_names};
 
-use crate::{Command, LimitHit, Status, Which};
+use crate::status::Ended;
+use crate::{Command, LimitHit, Status, TextFault, Which};
+use execution_definitions::Refusal;
 use itoa::Buffer;
-use ss_base::{Failed, Sink, write_all};
+use script_lang::{Script, ScriptKind};
+use ss_base::{Failed, ObjectId, SetId, Sink, write_all};
 
 const USAGE: &[u8] =
     b"usage: ssidx index [--delegates N] [--mode lanes|batch] [--ring N] [--stop FILE] NAME...
@@ -65,6 +71,7 @@ fn name_of(command: &Command, which: Which) -> &str
 {
     match (command, which) {
         (Command::Index { name }, Which::Name(1)) => name.as_str(),
+        (Command::Script { name }, Which::Script) => name.as_str(),
         _ => "",
     }
 }
@@ -127,17 +134,168 @@ fn tell_limit<E: Sink>(err: &mut E, command: &Command, hit: LimitHit)
     }
 }
 
-/// Writes what there is to say of the status with which a command ended.
-pub(crate) fn tell_status<E: Sink>(err: &mut E, command: &Command, status: Status)
+// Writes what there is to say of a line.
+fn tell_line<E: Sink>(err: &mut E, line: u32, what: &[u8])
     ensures { Tells (E.gained err.old) (E.gained err.new) (E.faults err.old) (E.faults err.new)
-        (status_text (Some command.now) status) }
+        (line_text line what.now) }
 {
-    match status {
+    let mut buffer = Buffer::new();
+    let number = buffer.format(line).as_bytes();
+    tell(err, &[b"ssidx: line ", number, b": ", what, b"\n"]);
+}
+
+// What is wrong with a line.
+#[tactic(auto, unfolding(crate::specs::Texts::kind_text))]
+fn kind_text(kind: ScriptKind) -> &'static [u8]
+    ensures { result.now ≡ kind_text kind }
+{
+    match kind {
+        ScriptKind::UnknownCommand => b"unknown command",
+        ScriptKind::BadShape => b"wrong words for this command",
+        ScriptKind::BadName => b"bad name",
+        ScriptKind::NameTaken => b"name is taken",
+        ScriptKind::NameUnknown => b"unknown name",
+        ScriptKind::BadNumber => b"bad number",
+    }
+}
+
+// Writes what is wrong with an input's text.
+fn tell_fault<E: Sink>(err: &mut E, fault: TextFault)
+    ensures { Tells (E.gained err.old) (E.gained err.new) (E.faults err.old) (E.faults err.new)
+        (fault_text fault) }
+{
+    let TextFault::Script(fault) = fault;
+    tell_line(err, fault.line, kind_text(fault.kind));
+}
+
+// The name of an object of a script, and no bytes without one.
+fn object_name(script: &Option<Script>, object: ObjectId) -> &str
+    ensures { result.now ≡ object_name (script_names script.now) object }
+{
+    match script {
+        Some(script) => script.name(object).unwrap_or(""),
+        None => "",
+    }
+}
+
+// Writes what there is to say of an object.
+fn tell_object<E: Sink>(err: &mut E, line: u32, name: &str, what: &[u8])
+    ensures { Tells (E.gained err.old) (E.gained err.new) (E.faults err.old) (E.faults err.new)
+        (line_text line (object_text name.now what.now)) }
+{
+    let mut buffer = Buffer::new();
+    let number = buffer.format(line).as_bytes();
+    tell(
+        err,
+        &[
+            b"ssidx: line ",
+            number,
+            b": ",
+            b"object ",
+            name.as_bytes(),
+            what,
+            b"\n",
+        ],
+    );
+}
+
+// Writes that an object is in a set, and not in another.
+fn tell_two_sets<E: Sink>(err: &mut E, line: u32, name: &str, first: SetId, second: SetId)
+    ensures { Tells (E.gained err.old) (E.gained err.new) (E.faults err.old) (E.faults err.new)
+        (line_text line (two_sets_text name.now first.0 second.0)) }
+{
+    let mut buffer = Buffer::new();
+    let number = buffer.format(line).as_bytes();
+    let mut first_buffer = Buffer::new();
+    let first_set = first_buffer.format(first.0).as_bytes();
+    let mut second_buffer = Buffer::new();
+    let second_set = second_buffer.format(second.0).as_bytes();
+    tell(
+        err,
+        &[
+            b"ssidx: line ",
+            number,
+            b": ",
+            b"object ",
+            name.as_bytes(),
+            b" is in set ",
+            first_set,
+            b", not in set ",
+            second_set,
+            b"\n",
+        ],
+    );
+}
+
+// Writes that an object is private to a set.
+fn tell_private<E: Sink>(err: &mut E, line: u32, name: &str, set: SetId)
+    ensures { Tells (E.gained err.old) (E.gained err.new) (E.faults err.old) (E.faults err.new)
+        (line_text line (private_text name.now set.0)) }
+{
+    let mut buffer = Buffer::new();
+    let number = buffer.format(line).as_bytes();
+    let mut set_buffer = Buffer::new();
+    let set = set_buffer.format(set.0).as_bytes();
+    tell(
+        err,
+        &[
+            b"ssidx: line ",
+            number,
+            b": ",
+            b"object ",
+            name.as_bytes(),
+            b" is private to set ",
+            set,
+            b"\n",
+        ],
+    );
+}
+
+// Writes why a call on a line is refused. A script can't have the last three refusals.
+#[tactic(auto, unfolding(crate::specs::Texts::refusal_text))]
+fn tell_refusal<E: Sink>(err: &mut E, script: &Option<Script>, line: u32, refusal: Refusal)
+    ensures { Tells (E.gained err.old) (E.gained err.new) (E.faults err.old) (E.faults err.new)
+        (line_text line (refusal_text (script_names script.now) refusal)) }
+{
+    match refusal {
+        Refusal::NotIsolating => tell_line(err, line, b"no epoch of isolation is open"),
+        Refusal::Isolating => tell_line(err, line, b"an epoch of isolation is open"),
+        Refusal::ReadOnly(object) => {
+            tell_object(err, line, object_name(script, object), b" is read-only");
+        }
+        Refusal::TwoSets {
+            object,
+            first,
+            second,
+        } => tell_two_sets(err, line, object_name(script, object), first, second),
+        Refusal::Shared(object) => {
+            tell_object(err, line, object_name(script, object), b" is read-shared");
+        }
+        Refusal::SelfRead(object) => {
+            tell_object(err, line, object_name(script, object), b" reads itself");
+        }
+        Refusal::Private { object, set } => {
+            tell_private(err, line, object_name(script, object), set);
+        }
+        Refusal::UnknownObject(_) => tell_line(err, line, b"no object has this number"),
+        Refusal::TooManyObjects => tell_line(err, line, b"too many objects"),
+        Refusal::TooManyCalls => tell_line(err, line, b"too many calls"),
+    }
+}
+
+/// Writes what there is to say of how a command ended.
+pub(crate) fn tell_status<E: Sink>(err: &mut E, command: &Command, ended: &Ended)
+    ensures { Tells (E.gained err.old) (E.gained err.new) (E.faults err.old) (E.faults err.new)
+        (status_text (Some command.now) (script_names ended.now.script) ended.now.status) }
+{
+    match ended.status {
         Status::Done => {}
         Status::Usage => tell_usage(err),
         Status::ReadFault(which) => tell_read_fault(err, name_of(command, which)),
         Status::WriteFault => tell(err, &[b"ssidx: cannot write\n"]),
         Status::OutOfMemory => tell_memory(err),
         Status::Limit(hit) => tell_limit(err, command, hit),
+        Status::Refused { line, refusal } => tell_refusal(err, &ended.script, line, refusal),
+        Status::Text(fault) => tell_fault(err, fault),
     }
 }
