@@ -31,11 +31,11 @@ Completes-limit (Some contents) answer status hit shelf_rose out_rose limit =
 
 pub Meets-limit :
     (told : Option Contents) (answer : Contents → Option Answer) (status : Status) (hit : LimitHit)
-    (before after left : Option (List ℕ)) (out_rose : Type 0)
+    (before after left : Option (List ℕ))
     → status ≡ Limit hit → IfTold told (λ contents. answer contents ≡ Some (over_limit hit))
-    → IfTold told (λ contents. Meets (answer contents) status before after left out_rose)
-Meets-limit None answer status hit before after left out_rose is limit = tt
-Meets-limit (Some contents) answer status hit before after left out_rose is limit = rw is limit
+    → IfTold told (λ contents. Meets (answer contents) status before after left)
+Meets-limit None answer status hit before after left is limit = tt
+Meets-limit (Some contents) answer status hit before after left is limit = rw is limit
 
 -- where the fault of a text is called for
 pub Completes-fault :
@@ -49,8 +49,8 @@ Completes-fault (Some contents) answer status fault shelf_rose out_rose bad =
 
 pub Meets-fault :
     (told : Option Contents) (answer : Contents → Option Answer) (status : Status)
-    (fault : TextFault) (before after left : Option (List ℕ)) (out_rose : Type 0)
+    (fault : TextFault) (before after left : Option (List ℕ))
     → status ≡ Text fault → IfTold told (λ contents. answer contents ≡ Some (has_fault fault))
-    → IfTold told (λ contents. Meets (answer contents) status before after left out_rose)
-Meets-fault None answer status fault before after left out_rose is bad = tt
-Meets-fault (Some contents) answer status fault before after left out_rose is bad = rw is bad
+    → IfTold told (λ contents. Meets (answer contents) status before after left)
+Meets-fault None answer status fault before after left is bad = tt
+Meets-fault (Some contents) answer status fault before after left is bad = rw is bad

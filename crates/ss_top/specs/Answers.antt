@@ -26,6 +26,12 @@ pub data Answer : Type 0 where
   has_fault : TextFault → Answer
   stops : List ℕ → ℕ → Refusal → Answer
 
+-- the text that an answer prints, if it prints one
+abbrev pub text_printed : Answer → Option (List ℕ)
+text_printed (prints text) = Some text
+text_printed (stops text line refusal) = Some text
+text_printed _ = None
+
 -- the answer to `index` over one document
 abbrev pub index_answer : List ℕ → Answer
 index_answer document =

@@ -1,5 +1,5 @@
 -- What does a run leave?
-use Rattle.std.specs.Prelude.{◌≡◌, ℕ, List, [], ⊤, ◌⊎◌, Some, None}
+use Rattle.std.specs.Prelude.{◌≡◌, ℕ, List, [], ⊤, ◌⊎◌, Some, None, option_and_then}
 use Rattle.std.specs.declared.option.Option.{Option}
 use Rattle.std.specs.Io.KnownBytes.{Appends}
 use Rattle.execution_definitions.specs.declared.refusal.Refusal.{Refusal}
@@ -10,7 +10,7 @@ use Rattle.ss_top.specs.declared.status.Status.{Status}
 use Rattle.ss_top.specs.declared.status.Status.TheVariants.{Done, Usage, ReadFault, WriteFault}
 use Rattle.ss_top.specs.declared.status.Status.TheVariants.{OutOfMemory, Limit, Refused, Text}
 use Rattle.ss_top.specs.declared.command.Command.{Command}
-use Rattle.ss_top.specs.Answers.{Answer, over_limit, prints, has_fault, stops, expected_answer}
+use Rattle.ss_top.specs.Answers.{Answer, over_limit, prints, has_fault, stops, text_printed, expected_answer}
 use Rattle.ss_top.specs.Texts.{status_text, names_in}
 
 -- a fact of contents that are told
@@ -38,32 +38,32 @@ pub record PrintsAll (answer : Option Answer) (before after left : Option (List 
 -- out gained a front part of the text that was called for, and nothing is left of the last input
 pub record PrintsFront (answer : Option Answer) (before after left : Option (List ℕ)) : Type 0 where
   pub text : List ℕ
-  pub expected : answer ≡ Some (prints text)
+  pub expected : option_and_then text_printed answer ≡ Some text
   pub gained : GainsFront before after text
   pub at_end : left ≡ Some []
 
--- out gained what is printed up to the break that was called for, or a front part of that where its
--- count of faults rose, and nothing is left of the last input
+-- out gained what is printed up to the break that was called for, and nothing is left of the last
+-- input
 pub record Stops (answer : Option Answer) (line : ℕ) (refusal : Refusal)
-    (before after left : Option (List ℕ)) (out_rose : Type 0) : Type 0 where
+    (before after left : Option (List ℕ)) : Type 0 where
   pub text : List ℕ
   pub expected : answer ≡ Some (stops text line refusal)
-  pub gained : Appends before after text ⊎ (out_rose × GainsFront before after text)
+  pub gained : Appends before after text
   pub at_end : left ≡ Some []
 
 -- what a status says of out, before and after, and of what is left of the last input, where contents
 -- are told: each but those of a fault or of want of memory is the one that the contents call for
 abbrev pub Meets :
-    Option Answer → Status → Option (List ℕ) → Option (List ℕ) → Option (List ℕ) → Type 0 → Type 0
-Meets answer Done before after left out_rose = PrintsAll answer before after left
-Meets answer WriteFault before after left out_rose = PrintsFront answer before after left
-Meets answer (Limit hit) before after left out_rose = answer ≡ Some (over_limit hit)
-Meets answer (Refused line refusal) before after left out_rose =
-    Stops answer line refusal before after left out_rose
-Meets answer (Text fault) before after left out_rose = answer ≡ Some (has_fault fault)
-Meets answer Usage before after left out_rose = answer ≡ None
-Meets answer (ReadFault which) before after left out_rose = ⊤
-Meets answer OutOfMemory before after left out_rose = ⊤
+    Option Answer → Status → Option (List ℕ) → Option (List ℕ) → Option (List ℕ) → Type 0
+Meets answer Done before after left = PrintsAll answer before after left
+Meets answer WriteFault before after left = PrintsFront answer before after left
+Meets answer (Limit hit) before after left = answer ≡ Some (over_limit hit)
+Meets answer (Refused line refusal) before after left =
+    Stops answer line refusal before after left
+Meets answer (Text fault) before after left = answer ≡ Some (has_fault fault)
+Meets answer Usage before after left = answer ≡ None
+Meets answer (ReadFault which) before after left = ⊤
+Meets answer OutOfMemory before after left = ⊤
 
 -- a text that is called for is printed, unless a count of faults rose or memory ran out
 abbrev pub Completes : Option Answer → Status → Type 0 → Type 0 → Type 0

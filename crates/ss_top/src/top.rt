@@ -35,7 +35,7 @@ fn print<K: Sink>(out: &mut K, printed: Printed) -> Ended
     ensures write_fault { result.status ≡ Status.WriteFault →
         Rose (K.faults out.old) (K.faults out.new) }
     ensures meets { Meets (Some (printed_answer printed)) result.status
-        (K.gained out.old) (K.gained out.new) (Some []) (Rose (K.faults out.old) (K.faults out.new)) }
+        (K.gained out.old) (K.gained out.new) (Some []) }
     ensures has_written { has_written result.status ≡ true }
     ensures complete { Completes (Some (printed_answer printed)) result.status ⊥
         (Rose (K.faults out.old) (K.faults out.new)) }
@@ -43,8 +43,11 @@ fn print<K: Sink>(out: &mut K, printed: Printed) -> Ended
         (broken : Broken) × (printed.broken ≡ Some broken) × (result.script ≡ Some broken.script) }
 {
     let Printed { text, broken } = printed;
-    let written = write_all(out, &text);
+    if let Err(Failed) = write_all(out, &text) {
+        return ended(Status::WriteFault);
+    }
     match broken {
+        None => ended(Status::Done),
         Some(
             Broken {
                 line,
@@ -54,10 +57,6 @@ fn print<K: Sink>(out: &mut K, printed: Printed) -> Ended
         ) => Ended {
             status: Status::Refused { line, refusal },
             script: Some(script),
-        },
-        None => match written {
-            Ok(()) => ended(Status::Done),
-            Err(Failed) => ended(Status::WriteFault),
         },
     }
 }
@@ -83,8 +82,7 @@ where
         IsInputOf (Some command.now) Which.Script }
     ensures meets { IfTold (L.contents shelf.old) (λ contents.
         Meets (answer_to (Some command.now) contents) result.status
-        (K.gained out.old) (K.gained out.new) (L.left shelf.new)
-        (Rose (K.faults out.old) (K.faults out.new))) }
+        (K.gained out.old) (K.gained out.new) (L.left shelf.new)) }
     ensures quiet { has_written result.status ≡ false → Keeps (K.gained out.old) (K.gained out.new) }
     ensures complete { IfTold (L.contents shelf.old) (λ contents.
         Completes (answer_to (Some command.now) contents) result.status
@@ -103,7 +101,7 @@ where
 /// Does what the words after the program's name ask for, and says how that ended.
 ///
 /// The text is built whole, then written to `out`; so on each status but `Done`, `WriteFault` and
-/// `Refused` `out` gains nothing. On every status but `Done` a text goes to `err`, and no status
+/// `Refused` `out` gains nothing. A write fault comes before a script's refusal. On every status but `Done` a text goes to `err`, and no status
 /// depends on whether that could be written.
 pub fn run<R, L: Shelf, K: Sink, E: Sink>(
     rt: &R,
@@ -133,8 +131,7 @@ where
     // Where contents are told, the status is the one that they call for, and so is what out gained.
     ensures meets { IfTold (L.contents shelf.old) (λ contents.
         Meets (answer_to (outcome (map string_bytes words.now)) contents) result
-        (K.gained out.old) (K.gained out.new) (L.left shelf.new)
-        (Rose (K.faults out.old) (K.faults out.new))) }
+        (K.gained out.old) (K.gained out.new) (L.left shelf.new)) }
     ensures quiet { has_written result ≡ false → Keeps (K.gained out.old) (K.gained out.new) }
 
     // What is called for is printed, unless the outside failed or memory ran out.

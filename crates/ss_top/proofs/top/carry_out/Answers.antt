@@ -13,7 +13,7 @@ returns-in-Err-ReadFault-clause-complete g c =
 
 pub returns-in-Err-Limit-clause-meets : goal.returns-in-Err-Limit-clause-meets
 returns-in-Err-Limit-clause-meets g c =
-    Meets-limit _ (expected_answer c.args.command.now) _ c.in-Err-Limit.hit _ _ _ _
+    Meets-limit _ (expected_answer c.args.command.now) _ c.in-Err-Limit.hit _ _ _
     (cc) (c.text_of.ensures.limit c.in-Err-Limit.hit cc)
 
 pub returns-in-Err-Limit-clause-complete : goal.returns-in-Err-Limit-clause-complete
@@ -27,7 +27,7 @@ returns-in-Err-Text-clause-text g c =
 
 pub returns-in-Err-Text-clause-meets : goal.returns-in-Err-Text-clause-meets
 returns-in-Err-Text-clause-meets g c =
-    Meets-fault _ (expected_answer c.args.command.now) _ c.in-Err-Text.fault _ _ _ _
+    Meets-fault _ (expected_answer c.args.command.now) _ c.in-Err-Text.fault _ _ _
     (cc) (c.text_of.ensures.text c.in-Err-Text.fault cc).1
 
 pub returns-in-Err-Text-clause-complete : goal.returns-in-Err-Text-clause-complete
