@@ -8,12 +8,12 @@ use Rattle.partition_check.specs.MarkedAfter.{HasMark}
 abbrev pub IsFree : Mark → Type 0
 IsFree mark = is_some mark.serializer ≡ true → mark.set ≡ None
 
--- so may the object to be read, where there is one
+-- so may the object that is to be read, where there is one
 abbrev pub IsReadFree : Option ℕ → List Mark → Type 0
 IsReadFree None marks = Unit {0}
 IsReadFree (Some read) marks = (mark : Mark) → slice_get marks read ≡ Some mark → IsFree mark
 
--- and it is another than this one
+-- the object that is to be read, where there is one, is another than this one
 abbrev pub IsReadOther : Option ℕ → ℕ → Type 0
 IsReadOther None object = Unit {0}
 IsReadOther (Some read) object = (read == object) ≡ false
@@ -26,13 +26,15 @@ IsUnshared marked object = (mark : Mark) → mark_at marked object ≡ Some mark
 abbrev pub IsSetFor : Marked → ℕ → ℕ → Type 0
 IsSetFor marked object set = (own : ℕ) × (set ≡ set_marked (mark_at marked object) object own)
 
--- an epoch is open, the objects that are named have marks, the one isn't shared, the other is
--- another that may be read, and there is room for a call
+-- what an accepted delegation to an object finds
 pub record IsDelegable (marked : Marked) (object : ℕ) (reading : Option ℕ) : Type 0 where
   pub isolating : marked.is_open ≡ true
+  -- the object has a mark, and no operation reads it
   pub known : object < length marked.objects
   pub unshared : IsUnshared marked object
+  -- the object to be read has a mark, is another, and may be read
   pub read_known : HasMark reading marked.objects
   pub read_other : IsReadOther reading object
   pub read_free : IsReadFree reading marked.objects
+  -- one call more can be counted
   pub room : marked.calls < 2 ^ 60
