@@ -1,15 +1,21 @@
 -- A script on a runtime, one command after the other.
-use Rattle.std.proofs.Common.{◌≡◌, ℕ, ◌+◌, ◌<◌, Bool, true, false, cond, Option, Some, None, List, [], ◌∷◌, ◌++◌, map, length, take, drop, get_or, refl, sym, ap, ap₂, ◌∙◌, subst, append-nil, append_assoc, arith}
+use Rattle.std.proofs.Common.{◌≡◌, ℕ, ◌+◌, ◌<◌, Bool, true, false, cond, Option, Some, None}
+use Rattle.std.proofs.Common.{List, [], ◌∷◌, ◌++◌, map, length, take, drop, get_or, Result, IfOk}
+use Rattle.std.proofs.Common.{refl, sym, ap, ap₂, ◌∙◌, subst, append-nil, append_assoc, arith}
 use Rattle.std.specs.Prelude.{fold, slice_get}
-use Rattle.std.proofs.lemmas.List.{map-append, length-map, length-take, take_more, take-append-drop, drop_more}
+use Rattle.std.proofs.lemmas.List.{map-append, length-map, length-take, take_more}
+use Rattle.std.proofs.lemmas.List.{take-append-drop, drop_more}
 use Rattle.std.proofs.lemmas.Option.{slice_get-get_or, slice_get_past}
+use Rattle.std.proofs.lemmas.Result.{IfOk-weaker}
 use Rattle.std.proofs.Math.Seq.{take-append_seam}
 use Rattle.class_laws.specs.declared.numbers.WrapSum.{WrapSum}
+use Rattle.ss_base.specs.declared.text.OutOfMemory.{OutOfMemory}
 use Rattle.execution_definitions.specs.declared.refusal.Refusal.{Refusal}
-use Rattle.execution_definitions.specs.Shapes.{Shape}
+use Rattle.execution_definitions.specs.Shapes.{Shape, is_begin, is_end}
 use Rattle.execution_definitions.specs.Epochs.{isolating}
 use Rattle.execution_definitions.specs.Soundness.{first_break, first_refusal}
-use Rattle.execution_definitions.proofs.EpochsLemmas.{isolating-within, isolating-begin, isolating-end}
+use Rattle.execution_definitions.proofs.EpochsLemmas.{isolating-within, isolating-begin}
+use Rattle.execution_definitions.proofs.EpochsLemmas.{isolating-end}
 use Rattle.execution_definitions.proofs.SoundnessLemmas.{first_break-at, first_refusal-at}
 use Rattle.delegation.specs.declared.call.Call.TheVariants as call
 use Rattle.delegation.specs.declared.call.Fault.{Fault}
@@ -29,15 +35,15 @@ use Rattle.script_lang.specs.Acts.{own_set}
 use Rattle.script_lang.specs.Listings.{Listing}
 use Rattle.script_lang.specs.ScriptCalls.{ScriptCall, call_of, calls_of, listed_calls}
 use Rattle.script_lang.specs.ScriptCalls.{ends_within_epoch, ended, is_open_after}
-use Rattle.script_lang.proofs.ScriptCallsLemmas.{ended-open, ended-closed}
 use Rattle.script_lang.specs.ScriptAnswers.{ShownRecord, script_meaning, shown_line, shown_lines}
-use Rattle.script_lang.specs.ScriptAnswers.{line_at, stop_at, shown_of}
+use Rattle.script_lang.specs.ScriptAnswers.{line_at, stop_at, shown_text, stopped_at, shown_of}
+use Rattle.script_lang.proofs.ScriptCallsLemmas.{ended-open, ended-closed}
 
 -- ---- the calls of the first commands, and what is left
 
-length_take_at : {A : Type 0} (i : ℕ) (items : List A) → i < length items →
+length-take_in : {A : Type 0} (i : ℕ) (items : List A) → i < length items →
     length (take i items) ≡ i
-length_take_at i items h = omega (arith, h, length-take i items)
+length-take_in i items h = omega (arith, h, length-take i items)
 
 -- one command more
 listed-more : (items : List Placed) (i : ℕ) (d : Placed) → i < length items →
@@ -48,23 +54,30 @@ listed-more items i d h =
     ∙ map-append (λ placed. call_of placed.command) (take i items) (get_or items i d ∷ [])
 
 -- an epoch is open after one command more
+
+within : (shapes : List Shape) (shape : Shape) → is_begin shape ≡ false → is_end shape ≡ false →
+    isolating (shapes ++ shape ∷ []) ≡ isolating shapes
+within shapes shape no_begin no_end =
+    isolating-within shapes shape (record { no_begin = no_begin; no_end = no_end })
+
+open-after : (shapes : List Shape) (command : Command) →
+    isolating (shapes ++ shape_of own_set (call_of command) ∷ [])
+    ≡ is_open_after command (isolating shapes)
+open-after shapes (Make value by) = within shapes _ refl refl
+open-after shapes (MakeFixed value) = within shapes _ refl refl
+open-after shapes Begin = isolating-begin shapes
+open-after shapes End = isolating-end shapes
+open-after shapes (Delegate object deed reading) = within shapes _ refl refl
+open-after shapes (Write object deed) = within shapes _ refl refl
+open-after shapes (Get object) = within shapes _ refl refl
+open-after shapes Total = within shapes _ refl refl
+
 open-more : (calls : List ScriptCall) (command : Command) →
     ends_within_epoch (calls ++ call_of command ∷ [])
     ≡ is_open_after command (ends_within_epoch calls)
 open-more calls command =
     ap isolating (map-append (shape_of own_set) calls (call_of command ∷ []))
-    ∙ judged (map (shape_of own_set) calls) command where
-      judged : (shapes : List Shape) (command : Command) →
-          isolating (shapes ++ shape_of own_set (call_of command) ∷ [])
-          ≡ is_open_after command (isolating shapes)
-      judged shapes (Make value by) = isolating-within shapes _ (record { no_begin = refl; no_end = refl })
-      judged shapes (MakeFixed value) = isolating-within shapes _ (record { no_begin = refl; no_end = refl })
-      judged shapes Begin = isolating-begin shapes
-      judged shapes End = isolating-end shapes
-      judged shapes (Delegate object deed reading) = isolating-within shapes _ (record { no_begin = refl; no_end = refl })
-      judged shapes (Write object deed) = isolating-within shapes _ (record { no_begin = refl; no_end = refl })
-      judged shapes (Get object) = isolating-within shapes _ (record { no_begin = refl; no_end = refl })
-      judged shapes Total = isolating-within shapes _ (record { no_begin = refl; no_end = refl })
+    ∙ open-after (map (shape_of own_set) calls) command
 
 pub open-in : (items : List Placed) (i : ℕ) (d : Placed) (is_open : Bool) → i < length items →
     is_open ≡ ends_within_epoch (listed_calls (take i items)) →
@@ -131,6 +144,12 @@ shown_by names calls = shown_lines names calls (sequential_replies script_meanin
 abbrev told : List ℕ → Option (ℕ × Refusal) → ShownRecord
 told text stopped = record { text = text; stopped = stopped }
 
+-- the fault is a refusal, and is told with this text and this line
+abbrev pub TellsOf : List ℕ → ℕ → Fault → ShownRecord → Type 0
+TellsOf text line fault shown =
+    (refusal : Refusal) × (fault ≡ Refused refusal)
+    × (shown ≡ told text (Some (line, refusal)))
+
 module _ (listing : Listing) where
   -- a runtime took these calls, and they showed this text
   pub record OnWay (runtime : RuntimeView Word32 WrapSum) (made : List ScriptCall)
@@ -143,6 +162,16 @@ module _ (listing : Listing) where
       : Type 0 where
     pub after : IsAfter script_meaning runtime (sound_front script_meaning (calls_of listing))
     pub shown : shows ≡ shown_of listing
+
+  -- a refusal changes no text
+  abbrev pub Keeps : List ℕ → List ℕ → Fault → Type 0
+  Keeps text longer fault = (refusal : Refusal) → fault ≡ Refused refusal → longer ≡ text
+
+  -- where the fault is a refusal, the script stops with it on this line
+  abbrev pub StopsAt : RuntimeView Word32 WrapSum → List ℕ → ℕ → Fault → Type 0
+  StopsAt new text line fault =
+      (refusal : Refusal) → fault ≡ Refused refusal →
+      HasShown new (record { text = text; stopped = Some (line, refusal) })
 
   -- an accepted call
   goes : (old new : RuntimeView Word32 WrapSum) (made : List ScriptCall) (text : List ℕ)
@@ -158,15 +187,13 @@ module _ (listing : Listing) where
       }
 
   -- a refused call, which stands on this line
-  stops : (old new : RuntimeView Word32 WrapSum) (made : List ScriptCall) (text : List ℕ)
-      (call : ScriptCall) (rest : List ScriptCall) (fault : Fault) (refusal : Refusal) (line : ℕ) →
-      calls_of listing ≡ made ++ call ∷ rest → OnWay old made text →
-      fault ≡ Refused refusal → FailsList script_meaning new made call fault →
-      line ≡ line_at listing (length made) →
-      HasShown new (record { text = text; stopped = Some (line, refusal) })
-  stops old new made text call rest fault refusal line is way is_refused fails on_line =
+  stops : (old new : RuntimeView Word32 WrapSum) (made : List ScriptCall) (text longer : List ℕ)
+      (call : ScriptCall) (rest : List ScriptCall) (fault : Fault) (line : ℕ) →
+      calls_of listing ≡ made ++ call ∷ rest → line ≡ line_at listing (length made) →
+      OnWay old made text → FailsList script_meaning new made call fault →
+      Keeps text longer fault → StopsAt new longer line fault
+  stops old new made text longer call rest fault line is on_line way fails kept refusal is_refused =
       let refused = subst (FailsList script_meaning new made call) is_refused fails in
-      let broken = refused.0 in
       let sound = way.after.marks.sound in
       let shapes : shapes_of script_meaning (calls_of listing)
       ≡ shapes_of script_meaning made ++ shape_of own_set call ∷ shapes_of script_meaning rest =
@@ -174,20 +201,25 @@ module _ (listing : Listing) where
       let place : first_break (shapes_of script_meaning (calls_of listing)) ≡ Some (length made) =
       ap first_break shapes
       ∙ first_break-at (shapes_of script_meaning made) (shape_of own_set call)
-      (shapes_of script_meaning rest) refusal sound broken
+      (shapes_of script_meaning rest) refusal sound refused.0
       ∙ ap Some (length-map made (shape_of own_set)) in
       let first : first_refusal (shapes_of script_meaning (calls_of listing)) ≡ Some refusal =
       ap first_refusal shapes
       ∙ first_refusal-at (shapes_of script_meaning made) (shape_of own_set call)
-      (shapes_of script_meaning rest) refusal sound broken in
+      (shapes_of script_meaning rest) refusal sound refused.0 in
       let front : sound_front script_meaning (calls_of listing) ≡ made =
       ap (λ at. front_before at (calls_of listing)) place
       ∙ ap (λ calls. take (length made) calls) is
       ∙ take-append_seam made (call ∷ rest) in
+      let shown : longer ≡ shown_text listing =
+      subst (λ calls. longer ≡ shown_by listing.names calls) (sym front)
+      (kept refusal is_refused ∙ way.shown) in
+      let stopped : Some (line, refusal) ≡ stopped_at listing =
+      subst (λ line. Some (line, refusal) ≡ stopped_at listing) (sym on_line)
+      (sym (ap₂ (stop_at listing) place first)) in
       record {
         after = subst (λ calls. IsAfter script_meaning new calls) (sym front) refused.1;
-        shown = ap₂ told (way.shown ∙ ap (shown_by listing.names) (sym front))
-            (ap (λ line. Some (line, refusal)) on_line ∙ sym (ap₂ (stop_at listing) place first));
+        shown = ap₂ told shown stopped;
       }
 
   -- no call was refused
@@ -199,11 +231,14 @@ module _ (listing : Listing) where
       ap (λ calls. first_break (shapes_of script_meaning calls)) is ∙ way.after.marks.sound in
       let front : sound_front script_meaning (calls_of listing) ≡ made =
       ap (λ at. front_before at (calls_of listing)) sound ∙ is in
+      let stopped : None ≡ stopped_at listing =
+      ap (λ place. stop_at listing place
+      (first_refusal (shapes_of script_meaning (calls_of listing)))) (sym sound) in
+      let shown : text ≡ shown_text listing =
+      subst (λ calls. text ≡ shown_by listing.names calls) (sym front) way.shown in
       record {
         after = subst (λ calls. IsAfter script_meaning new calls) (sym front) way.after;
-        shown = ap₂ told (way.shown ∙ ap (shown_by listing.names) (sym front))
-            (ap (λ place. stop_at listing place
-            (first_refusal (shapes_of script_meaning (calls_of listing)))) (sym sound));
+        shown = ap₂ told shown stopped;
       }
 
   -- a command of the script was accepted
@@ -222,12 +257,12 @@ module _ (listing : Listing) where
   -- a command of the script was refused
   pub stops-in : (items : List Placed) → items ≡ listing.commands →
       (i : ℕ) (d : Placed) → i < length items →
-      (old new : RuntimeView Word32 WrapSum) (text : List ℕ) (fault : Fault) (refusal : Refusal) →
-      OnWay old (listed_calls (take i items)) text → fault ≡ Refused refusal →
+      (old new : RuntimeView Word32 WrapSum) (text longer : List ℕ) (fault : Fault) →
+      OnWay old (listed_calls (take i items)) text →
       FailsList script_meaning new (listed_calls (take i items))
       (call_of (get_or items i d).command) fault →
-      HasShown new (record { text = text; stopped = Some ((get_or items i d).line, refusal) })
-  stops-in items are i d h old new text fault refusal way is_refused fails =
+      Keeps text longer fault → StopsAt new longer (get_or items i d).line fault
+  stops-in items are i d h old new text longer fault way fails kept =
       let made = listed_calls (take i items) in
       let this = call_of (get_or items i d).command in
       let left = listed_calls (drop (i + 1) items) in
@@ -241,27 +276,45 @@ module _ (listing : Listing) where
       let whole : calls_of listing ≡ made ++ this ∷ (left ++ more.0) =
       more.1 ∙ ap (λ calls. calls ++ more.0) listed ∙ append_assoc made (this ∷ left) more.0 in
       let count : length made ≡ i =
-      length-map (take i items) (λ placed. call_of placed.command)
-      ∙ length_take_at i items h in
+      length-map (take i items) (λ placed. call_of placed.command) ∙ length-take_in i items h in
       let placed : slice_get listing.commands i ≡ Some (get_or items i d) =
       ap (λ commands. slice_get commands i) (sym are) ∙ slice_get-get_or items i d h in
-      stops old new made text this (left ++ more.0) fault refusal (get_or items i d).line whole way
-      is_refused fails (rw (count, placed) refl)
+      stops old new made text longer this (left ++ more.0) fault (get_or items i d).line whole
+      (rw (count, placed) refl) way fails kept
 
   -- the end that the script lacks was refused
-  pub stops-end : (old new : RuntimeView Word32 WrapSum) (text : List ℕ) (fault : Fault)
-      (refusal : Refusal) → ends_within_epoch (listed_calls listing.commands) ≡ true →
-      OnWay old (listed_calls listing.commands) text → fault ≡ Refused refusal →
+  pub stops-end : (old new : RuntimeView Word32 WrapSum) (text longer : List ℕ) (fault : Fault) →
+      ends_within_epoch (listed_calls listing.commands) ≡ true →
+      OnWay old (listed_calls listing.commands) text →
       FailsList script_meaning new (listed_calls listing.commands) call.End fault →
-      HasShown new (record { text = text; stopped = Some (0, refusal) })
-  stops-end old new text fault refusal is_open way is_refused fails =
+      Keeps text longer fault → StopsAt new longer 0 fault
+  stops-end old new text longer fault is_open way fails kept =
       let made = listed_calls listing.commands in
       let count : length made ≡ length listing.commands =
       length-map listing.commands (λ placed. call_of placed.command) in
       let none : slice_get listing.commands (length listing.commands) ≡ None =
       slice_get_past listing.commands (length listing.commands) (omega arith) in
-      stops old new made text call.End [] fault refusal 0 (ended-open made is_open) way
-      is_refused fails (rw (count, none) refl)
+      stops old new made text longer call.End [] fault 0 (ended-open made is_open)
+      (rw (count, none) refl) way fails kept
+
+  -- what is answered then says what the script shows
+  pub says_shown : (new : RuntimeView Word32 WrapSum) (text : List ℕ) (line : ℕ) (fault : Fault) →
+      StopsAt new text line fault → (result : Result ShownRecord OutOfMemory) →
+      IfOk result (TellsOf text line fault) →
+      IfOk result (λ shown. shown ≡ shown_of listing)
+  says_shown new text line fault stops result tells =
+      IfOk-weaker result (TellsOf text line fault) (λ shown. shown ≡ shown_of listing)
+      (λ shown t. t.2 ∙ (stops t.0 t.1).shown) tells
+
+  pub says_after : (new : RuntimeView Word32 WrapSum) (text : List ℕ) (line : ℕ) (fault : Fault) →
+      StopsAt new text line fault → (result : Result ShownRecord OutOfMemory) →
+      IfOk result (TellsOf text line fault) →
+      IfOk result (λ shown. IsAfter script_meaning new
+      (sound_front script_meaning (calls_of listing)))
+  says_after new text line fault stops result tells =
+      IfOk-weaker result (TellsOf text line fault)
+      (λ shown. IsAfter script_meaning new (sound_front script_meaning (calls_of listing)))
+      (λ shown t. (stops t.0 t.1).after) tells
 
   -- the end that the script lacks was accepted
   pub ends-open : (old new : RuntimeView Word32 WrapSum) (text longer : List ℕ) →

@@ -63,7 +63,8 @@ shown_text listing =
     let front = sound_front script_meaning (calls_of listing) in
     shown_lines listing.names front (sequential_replies script_meaning front)
 
--- the line of a call; the end that a script lacks stands on none, and has 0
+-- the line of a call; the end that a script lacks stands on none, and has 0 (nothing refuses it,
+-- but behind 2^60 calls)
 abbrev pub line_at : Listing → ℕ → ℕ
 line_at listing place = option_map_or (λ placed. placed.line) (slice_get listing.commands place) 0
 

@@ -1,4 +1,5 @@
-//! The script language: the words, which words a script may hold, and the calls that it stands for.
+//! The script language: the words, which words a script may hold, the calls that it stands for, and
+//! what it shows when a runtime makes them.
 #![tactic(auto)]
 
 mod command;

@@ -1,6 +1,7 @@
 // A script on a runtime.
-ghost use Rattle.std.specs.Prelude.{◌≡◌, [], ◌∷◌, ◌++◌, Err, IfOk, OnOk, decimal};
-ghost use Rattle.delegation.specs.declared.call.Fault.TheVariants as fault;
+ghost use Rattle.std.specs.Prelude.{◌≡◌, [], ◌∷◌, ◌++◌, Some, Err, IfOk, OnOk};
+ghost use Rattle.std.specs.Prelude.{decimal};
+ghost use Rattle.delegation.specs.declared.call.Fault.TheVariants.{Refused};
 ghost use Rattle.delegation.specs.Sequential.{reply_of};
 ghost use Rattle.delegation.specs.Runtimes.{IsAfter};
 ghost use Rattle.delegation.specs.Answers.{Follows};
@@ -75,11 +76,12 @@ fn run_command<D: Delegation<Word32>, R: Threads + Wait + Copy + Send + Sync + '
     command: Command,
     text: &mut Vec<u8>,
 ) -> Result<(), Fault>
-    ensures follows { Follows script_meaning (D.seen d.old) (D.seen d.new) (call_of command) result }
+    ensures follows { Follows script_meaning (D.seen d.old) (D.seen d.new)
+        (call_of command) result }
     ensures text { OnOk result (text.new.items ≡ text.old.items
         ++ shown_line script.now.names (call_of command) (reply_of script_meaning
         (D.seen d.old).state (D.seen d.old).marks.calls (call_of command))) }
-    ensures refused { (refusal : Refusal) → result ≡ Err (fault.Refused refusal)
+    ensures refused { (refusal : Refusal) → result ≡ Err (Refused refusal)
         → text.new.items ≡ text.old.items }
 {
     match command {
@@ -112,6 +114,20 @@ fn run_command<D: Delegation<Word32>, R: Threads + Wait + Copy + Send + Sync + '
     Ok(())
 }
 
+// What was shown before the call on this line, which wasn't done.
+fn shown_until(text: Vec<u8>, line: u32, fault: Fault) -> Result<Shown, OutOfMemory>
+    ensures { IfOk result (λ shown. (refusal : Refusal) × (fault ≡ Refused refusal)
+        × (shown ≡ record { text = text.items; stopped = Some (line, refusal) })) }
+{
+    match fault {
+        Fault::Refused(refusal) => Ok(Shown {
+            text,
+            stopped: Some((line, refusal)),
+        }),
+        Fault::OutOfMemory => Err(OutOfMemory),
+    }
+}
+
 /// Makes the calls of a script in their order, up to the first that is refused, and gives what they
 /// show. The runtime is a new one. An `End` that the script lacks is made too.
 ///
@@ -133,26 +149,14 @@ pub fn run_script<D: Delegation<Word32>, R: Threads + Wait + Copy + Send + Sync 
     for placed in script.commands() {
         match run_command(rt, d, script, placed.command, &mut text) {
             Ok(()) => is_open = is_open_after(placed.command, is_open),
-            Err(Fault::Refused(refusal)) => {
-                return Ok(Shown {
-                    text,
-                    stopped: Some((placed.line, refusal)),
-                });
-            }
-            Err(Fault::OutOfMemory) => return Err(OutOfMemory),
+            Err(fault) => return shown_until(text, placed.line, fault),
         }
     }
     if is_open {
         match run_command(rt, d, script, Command::End, &mut text) {
             Ok(()) => {}
-            Err(Fault::Refused(refusal)) => {
-                // Of all calls this one stands on no line.
-                return Ok(Shown {
-                    text,
-                    stopped: Some((0, refusal)),
-                });
-            }
-            Err(Fault::OutOfMemory) => return Err(OutOfMemory),
+            // Of all calls this one stands on no line.
+            Err(fault) => return shown_until(text, 0, fault),
         }
     }
     Ok(Shown {

@@ -2,12 +2,17 @@
 // what they are meant to, by examples worked out by hand.
 ghost use Rattle.std.specs.Prelude.{◌≡◌};
 
-use crate::{Act, Deed, ParseFault, Script, ScriptFault, ScriptKind, Word32, parse};
+use crate::{
+    Act, Deed, ParseFault, Script, ScriptFault, ScriptKind, Shown, Word32, parse, run_script,
+};
 use class_laws::{Class, Reducible, WrapSum, no_reading};
-use delegation::Call;
-use ss_base::{ObjectId, OutOfMemory};
+use delegation::{Call, Plain};
+use execution_definitions::Refusal;
+use ss_base::{ObjectId, OutOfMemory, SetId};
 use std::alloc::Global;
+use std::sync::Wait;
 use std::test::Fail;
+use std::thread::Threads;
 
 // The script of bytes that are few enough.
 fn parsed(alloc: Global, bytes: &[u8]) -> Result<Script, ParseFault> {
@@ -237,5 +242,127 @@ fn acts_change_values_and_contribute(rt: HostRuntime) -> Result<(), Fail> {
     word.apply(alloc, &mix, no_reading(), &mut red)?;
     assert_eq!(rt; word, Word32(62));
     assert_eq!(rt; red, WrapSum(1));
+    Ok(())
+}
+
+const TWO_SETS: Refusal = Refusal::TwoSets {
+    object: ObjectId(0),
+    first: SetId(1),
+    second: SetId(2),
+};
+
+const PRIVATE: Refusal = Refusal::Private {
+    object: ObjectId(1),
+    set: SetId(1),
+};
+
+// Scripts, with what they show, and the line and the refusal that they stop at.
+const SHOWN: [(&str, &str, Option<(u32, Refusal)>); 16] = [
+    ("", "", None),
+    (
+        "object x 5\nisolate\ndo x add 3\ndo x mul 2\njoin\nshow x\n",
+        "x 16\n",
+        None,
+    ),
+    (
+        "object x 5 own\nisolate\ndo x add 1 in 1\ndo x add 1 in 2\n",
+        "",
+        Some((4, TWO_SETS)),
+    ),
+    (
+        "object x 2\nobject y 3\nisolate\nmix x y\ndo y add 1\n",
+        "",
+        Some((5, Refusal::Shared(ObjectId(1)))),
+    ),
+    (
+        "object x 2\nobject y 3\nisolate\nmix x y\njoin\nisolate\ndo y add 1\njoin\n\
+         show x\nshow y\n",
+        "x 65\ny 4\n",
+        None,
+    ),
+    (
+        "object x 2\nobject y 3\nisolate\ndo y add 1\nmix x y\n",
+        "",
+        Some((5, PRIVATE)),
+    ),
+    (
+        "object x 2\nobject y 3\nisolate\nmix x x\ndo y add 1\n",
+        "",
+        Some((4, Refusal::SelfRead(ObjectId(0)))),
+    ),
+    (
+        "object x 5\nisolate\ndo x add 1\nshow x\ndo x add 1\njoin\nshow x\n",
+        "x 6\nx 7\n",
+        None,
+    ),
+    (
+        "object x 2\nobject y 3\nisolate\nmix x y\njoin\nisolate\ndo y set 4\njoin\n\
+         isolate\nmix x y\njoin\nshow x\n",
+        "x 2019\n",
+        None,
+    ),
+    (
+        "object a 1\nobject b 2\nobject c 3\nisolate\ndo a give\ndo b give\nshow a\n\
+         do c give\njoin\ntotal\n",
+        "a 1\ntotal 6\n",
+        None,
+    ),
+    ("object x 1\njoin\n", "", Some((2, Refusal::NotIsolating))),
+    ("isolate\ntotal\n", "", Some((2, Refusal::Isolating))),
+    (
+        "fixed f 1\nisolate\ndo f give\n",
+        "",
+        Some((3, Refusal::ReadOnly(ObjectId(0)))),
+    ),
+    (
+        "object x 7\nwrite x mul 3\nshow x\ntotal\n",
+        "x 21\ntotal 0\n",
+        None,
+    ),
+    (
+        "object x 5\nobject y 6\nisolate\ndo x add 1\ndo y add 1\ndo x mul 2\njoin\nshow x\n",
+        "x 12\n",
+        None,
+    ),
+    (
+        "object x 4294967295\n# one\nisolate\nshow x\n\ntotal\nshow x\n",
+        "x 4294967295\n",
+        Some((6, Refusal::Isolating)),
+    ),
+];
+
+// What a script shows on the runtime without delegates.
+fn run<R: Threads + Wait + Copy + Send + Sync + 'static>(
+    rt: &R,
+    alloc: Global,
+    text: &str,
+) -> Result<Shown, ParseFault> {
+    let script = parsed(alloc, text.as_bytes())?;
+    let mut plain = Plain::new(alloc)?;
+    Ok(run_script(rt, alloc, &mut plain, &script)?)
+}
+
+#[test]
+fn scripts_show_values_and_stop(rt: HostRuntime) -> Result<(), Fail> {
+    for (text, lines, stopped) in &SHOWN {
+        let shown = run(&rt, rt.alloc(), text)?;
+        assert_eq!(rt; shown.text.as_slice(), lines.as_bytes(), "at {text}");
+        assert_eq!(rt; shown.stopped, *stopped, "at {text}");
+    }
+    Ok(())
+}
+
+#[test]
+fn a_script_of_65536_lines_is_shown(rt: HostRuntime) -> Result<(), Fail> {
+    let alloc = rt.alloc();
+    let mut text = String::new(alloc);
+    text.push_str("object x 1\nisolate\n")?;
+    for _ in 0..65_533u32 {
+        text.push_str("do x add 1\n")?;
+    }
+    text.push_str("show x\n")?;
+    let shown = run(&rt, alloc, &text)?;
+    assert_eq!(rt; shown.text.as_slice(), b"x 65534\n".as_slice());
+    assert_eq!(rt; shown.stopped, None);
     Ok(())
 }
