@@ -10,7 +10,8 @@ use Rattle.ss_top.specs.declared.status.Status.{Status}
 use Rattle.ss_top.specs.declared.status.Status.TheVariants.{Done, Usage, ReadFault, WriteFault}
 use Rattle.ss_top.specs.declared.status.Status.TheVariants.{OutOfMemory, Limit, Refused, Text}
 use Rattle.ss_top.specs.declared.command.Command.{Command}
-use Rattle.ss_top.specs.Answers.{Answer, over_limit, prints, has_fault, stops, text_printed, expected_answer}
+use Rattle.ss_top.specs.Answers.{Answer, over_limit, prints, has_fault, stops}
+use Rattle.ss_top.specs.Answers.{text_printed, expected_answer}
 use Rattle.ss_top.specs.Texts.{status_text, names_in}
 
 -- a fact of contents that are told
