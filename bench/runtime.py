@@ -30,6 +30,7 @@ ROWS = [
     ("an empty epoch of 65,536 objects", "epoch_many_objects", "epoch_many_objects", NS),
     ("an empty epoch of 16 objects", "epoch_few_objects", "epoch_few_objects", NS),
     ("a delegated addition / one in a Vec", "delegate_plain", "add_in_vec", NS),
+    ("the same / one in a Vec with a log", "delegate_plain", "add_in_vec_logged", NS),
     ("add of a new key / HashMap", "add_new", "hash_add_new", NS),
     ("add of a new key / BTreeMap", "add_new", "tree_add_new", NS),
     ("add of a known key / HashMap", "add_again", "hash_add_again", NS),

@@ -9,7 +9,7 @@ use Rattle.std.specs.Str.{bytes_eq}
 use Rattle.ss_top.specs.declared.command.Command.{Command}
 use Rattle.ss_top.specs.declared.command.Command.TheVariants as command
 use Rattle.ss_top.specs.declared.status.Which.{Which}
-use Rattle.ss_top.specs.declared.status.Which.TheVariants.{Name, Stop, Script, Schedule}
+use Rattle.ss_top.specs.declared.status.Which.TheVariants.{Name, Script}
 
 -- `index -`
 abbrev pub asks_for_input : List (List ℕ) → Bool

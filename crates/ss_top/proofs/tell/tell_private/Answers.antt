@@ -1,4 +1,4 @@
-use Rattle.std.proofs.Common.{ℕ, List, subst, refl, ◌∙◌}
+use Rattle.std.proofs.Common.{ℕ, List, subst, ◌∙◌}
 use Rattle.std.specs.Prelude.{codes, decimal}
 use Rattle.ss_top.specs.Runs.{Tells}
 use Rattle.ss_top.specs.Texts.{line_text, private_text}
