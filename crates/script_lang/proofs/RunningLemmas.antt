@@ -53,7 +53,7 @@ listed-more items i d h =
     ap listed_calls (take_more items i d h)
     ∙ map-append (λ placed. call_of placed.command) (take i items) (get_or items i d ∷ [])
 
--- an epoch is open after one command more
+-- ---- an epoch is open after one command more, or isn't
 
 within : (shapes : List Shape) (shape : Shape) → is_begin shape ≡ false → is_end shape ≡ false →
     isolating (shapes ++ shape ∷ []) ≡ isolating shapes
@@ -88,7 +88,8 @@ open-in items i d is_open h is =
     ∙ sym (open-more (listed_calls (take i items)) (get_or items i d).command)
     ∙ ap ends_within_epoch (sym (listed-more items i d h))
 
--- a script's calls are those of its commands, and perhaps more
+-- ---- a script's calls are those of its commands, and perhaps an end
+
 calls_of-more : (listing : Listing) →
     (extra : List ScriptCall) × (calls_of listing ≡ listed_calls listing.commands ++ extra)
 unfolding ended

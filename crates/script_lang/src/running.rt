@@ -1,6 +1,5 @@
 // A script on a runtime.
-ghost use Rattle.std.specs.Prelude.{◌≡◌, [], ◌∷◌, ◌++◌, Some, Err, IfOk, OnOk};
-ghost use Rattle.std.specs.Prelude.{decimal};
+ghost use Rattle.std.specs.Prelude.{◌≡◌, [], ◌∷◌, ◌++◌, Some, Err, IfOk, OnOk, decimal};
 ghost use Rattle.delegation.specs.declared.call.Fault.TheVariants.{Refused};
 ghost use Rattle.delegation.specs.Sequential.{reply_of};
 ghost use Rattle.delegation.specs.Runtimes.{IsAfter};
@@ -10,7 +9,7 @@ ghost use Rattle.script_lang.specs.ScriptCalls.{call_of, calls_of, is_open_after
 ghost use Rattle.script_lang.specs.ScriptAnswers.{script_meaning, value_line, total_line};
 ghost use Rattle.script_lang.specs.ScriptAnswers.{shown_line, shown_of};
 
-use crate::command::{Command, Placed};
+use crate::command::Command;
 use crate::script::{Script, is_open_after};
 use crate::word32::Word32;
 use delegation::{Delegation, Fault};
