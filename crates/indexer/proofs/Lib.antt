@@ -1,2 +1,4 @@
+pub mod CountedLemmas
 pub mod GroupsLemmas
+pub mod LongestLemmas
 pub mod NumberingLemmas

@@ -1,12 +1,12 @@
 // The counted words of a document that was split.
-ghost use Rattle.std.specs.Prelude.{◌≡◌, ◌≤◌, ◌<◌, Some, length, map, max, fold, chars, IfOk};
-ghost use Rattle.std.specs.List.{slice_get};
+ghost use Rattle.std.specs.Prelude.{◌≡◌, ◌≤◌, ◌<◌, [], length, map, max, fold, chars, IfOk};
+ghost use Rattle.std.specs.List.{slice_index_or};
 ghost use Rattle.index_definitions.specs.PostingLists.{ArePositions};
 ghost use Rattle.indexer.specs.Documents.{split_words, positions_of, longest_in};
 ghost use Rattle.indexer.specs.Shards.{shard_of};
 ghost use Rattle.indexer.specs.NumberedWords.{AreTermsOf};
 
-use crate::groups::group_positions;
+use crate::groups::{group_of, group_positions};
 use crate::numbering::number_words;
 use crate::shard_of::shard_of;
 use doc_words::StopSet;
@@ -54,15 +54,30 @@ fn shards_of(alloc: Global, terms: &TextTable) -> Result<Vec<u8>, OutOfMemory>
     Ok(shards)
 }
 
+// How many characters a text has.
+fn characters(text: &str) -> u64
+    ensures { result ≡ length (chars text.now) }
+{
+    text.chars().count() as u64
+}
+
+// The greater of a number and the characters of a text.
+fn longer(longest: u64, text: &str) -> u64
+    ensures { result ≡ max longest (length (chars text.now)) }
+{
+    let count = characters(text);
+    if count > longest { count } else { longest }
+}
+
 // The most characters of a term, or 0.
 fn longest_of(terms: &TextTable) -> u64
     ensures { result ≡ fold (λ longest term. max longest (length (chars term))) 0 terms.now }
 {
     let mut longest = 0;
     for number in 0..terms.len() {
-        longest = longest.max(terms.text(number).chars().count());
+        longest = longer(longest, terms.text(number));
     }
-    longest as u64
+    longest
 }
 
 impl CountedWords {
@@ -114,7 +129,7 @@ impl CountedWords {
     /// A term.
     pub(crate) fn term(&self, number: u32) -> &str
         requires { number < length self.now.terms }
-        ensures { slice_get self.now.terms number ≡ Some result.now }
+        ensures { result.now ≡ slice_index_or self.now.terms number [] }
     {
         self.terms.text(number)
     }
@@ -122,7 +137,7 @@ impl CountedWords {
     /// The shard of a term.
     pub(crate) fn shard(&self, number: u32) -> u8
         requires { number < length self.now.terms }
-        ensures { slice_get (map shard_of self.now.terms) number ≡ Some result }
+        ensures { result ≡ shard_of (slice_index_or self.now.terms number []) }
     {
         self.shards[number as usize]
     }
@@ -130,17 +145,15 @@ impl CountedWords {
     /// The positions of a term.
     pub(crate) fn positions(&self, number: u32) -> &[u32]
         requires { number < length self.now.terms }
-        ensures positions { slice_get (map (λ term. positions_of term self.now.words) self.now.terms)
-            number ≡ Some result.now }
+        ensures positions { result.now
+            ≡ positions_of (slice_index_or self.now.terms number []) self.now.words }
         ensures are { ArePositions result.now }
     {
-        let number = number as usize;
-        let start = if number == 0 {
-            0
-        } else {
-            self.ends[number - 1]
-        };
-        &self.positions[start as usize..self.ends[number] as usize]
+        group_of(
+            self.positions.as_slice(),
+            self.ends.as_slice(),
+            number as usize,
+        )
     }
 
     /// Second words, equal to these.
