@@ -2,3 +2,4 @@ pub mod CountedLemmas
 pub mod GroupsLemmas
 pub mod LongestLemmas
 pub mod NumberingLemmas
+pub mod TotalsLemmas
