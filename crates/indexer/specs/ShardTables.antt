@@ -18,8 +18,12 @@ parts_from number terms lists = record { number = number; places = places_from t
 abbrev pub last_of : List Places → ℕ
 last_of lists = fold (λ last places. max last (last_document places)) 0 lists
 
--- each term has one list, and `last` is the last document
-pub record IsShardTable (terms : List (List ℕ)) (lists : List Places) (last : ℕ) : Type 0 where
+-- each term has one list
+pub record ArePaired (terms : List (List ℕ)) (lists : List Places) : Type 0 where
   pub distinct : AreDistinct terms
   pub paired : length terms ≡ length lists
+
+-- and `last` is the last document
+pub record IsShardTable (terms : List (List ℕ)) (lists : List Places) (last : ℕ) : Type 0 where
+  pub pairs : ArePaired terms lists
   pub last_is : last ≡ last_of lists

@@ -54,13 +54,10 @@ last_in places = fold (λ last entry. max last (last_document entry.1)) 0 (finit
 abbrev pub comes_last : TermPlaces → ℕ → Bool
 comes_last places document = nat_lt (last_in places) document
 
--- the shard with a document appended to those of a term
-abbrev pub with_place : ShardParts → List ℕ → ℕ → List ℕ → ShardParts
-with_place shard term document positions = record {
-  number = shard.number;
-  places =
-      finite.insert shard.places term (places_of shard.places term ++ (document, positions) ∷ []);
-}
+-- a document appended to those of a term
+abbrev pub with_place : TermPlaces → List ℕ → ℕ → List ℕ → TermPlaces
+with_place places term document positions =
+    finite.insert places term (places_of places term ++ (document, positions) ∷ [])
 
 -- a term with the document appended to its documents
 abbrev pub with_document : TermPlaces → ℕ → List Word → List ℕ → List ℕ × Places

@@ -1,8 +1,9 @@
 // A shard: the postings of the terms that belong to it.
-ghost use Rattle.std.specs.Prelude.{◌≡◌, ℕ, ◌<◌, [], ◌∷◌, ◌++◌, length, Some, None, IfOk, OnOk, OnErr, if◌then◌else◌};
-ghost use Rattle.std.specs.FinMap as finite;
+ghost use Rattle.std.specs.Prelude.{◌≡◌, ℕ, ◌<◌, [], ◌∷◌, ◌++◌, length, max, None, IfOk, OnOk, OnErr};
+ghost use Rattle.std.specs.List.{slice_index_or, slice_set};
 ghost use Rattle.index_definitions.specs.PostingLists.{ArePositions, last_document};
 ghost use Rattle.text_table.specs.TextTables.{number_of};
+ghost use Rattle.indexer.specs.ShardTables.{ArePaired, places_from, last_of};
 ghost use Rattle.indexer.specs.Shards.{empty_shard, last_in, places_of};
 ghost use Rattle.indexer.specs.Shards.{with_place, gathered, gathered_content};
 
@@ -38,6 +39,79 @@ impl Model for Shard {
     ghost view = { λ shard. parts_from shard.number shard.terms shard.lists.items };
 
     ghost invariant = { λ shard. IsShardTable shard.terms shard.lists.items shard.last };
+}
+
+// Appends a document to a list of postings.
+fn append_at(
+    lists: &mut Vec<Postings>,
+    number: usize,
+    doc: u32,
+    positions: &[u32],
+) -> Result<(), OutOfMemory>
+    requires within { number < length lists.old.items }
+    requires rises { last_document (slice_index_or lists.old.items number []) < doc }
+    requires positions { ArePositions positions.now }
+    ensures ok { OnOk result (lists.new.items ≡ slice_set lists.old.items number
+        (slice_index_or lists.old.items number [] ++ (doc, positions.now) ∷ [])) }
+    ensures err { OnErr result (lists.new.items ≡ lists.old.items) }
+{
+    let list = &mut lists[number];
+    list.append(doc, positions)
+}
+
+// Adds a term that is not there, with its postings.
+fn push_both(
+    terms: &mut TextTable,
+    lists: &mut Vec<Postings>,
+    term: &str,
+    list: Postings,
+) -> Result<(), OutOfMemory>
+    requires { number_of terms.old term.now ≡ None }
+    ensures terms { OnOk result (terms.new ≡ terms.old ++ term.now ∷ []) }
+    ensures lists { OnOk result (lists.new.items ≡ lists.old.items ++ list ∷ []) }
+    ensures same_terms { OnErr result (terms.new ≡ terms.old) }
+    ensures same_lists { OnErr result (lists.new.items ≡ lists.old.items) }
+{
+    lists.push(list)?;
+    if let Err(error) = terms.insert(term) {
+        lists.pop();
+        return Err(error);
+    }
+    Ok(())
+}
+
+// Appends a document to a term, which is added if it is new.
+fn append_place(
+    terms: &mut TextTable,
+    lists: &mut Vec<Postings>,
+    term: &str,
+    doc: u32,
+    positions: &[u32],
+) -> Result<(), OutOfMemory>
+    requires pairs { ArePaired terms.old lists.old.items }
+    requires rises { last_document (places_of (places_from terms.old lists.old.items) term.now)
+        < doc }
+    requires positions { ArePositions positions.now }
+    ensures pairs { ArePaired terms.new lists.new.items }
+    ensures places { OnOk result (places_from terms.new lists.new.items
+        ≡ with_place (places_from terms.old lists.old.items) term.now doc positions.now) }
+    ensures last { OnOk result (last_of lists.new.items ≡ max (last_of lists.old.items) doc) }
+    ensures same_last { OnErr result (last_of lists.new.items ≡ last_of lists.old.items) }
+{
+    let Some(number) = terms.number_of(term) else {
+        let mut list = Postings::new(*lists.allocator());
+        list.append(doc, positions)?;
+        push_both(terms, lists, term, list)?;
+        return Ok(());
+    };
+    append_at(lists, number as usize, doc, positions)
+}
+
+// The greater of two documents.
+fn later(first: u32, second: u32) -> u32
+    ensures { result ≡ max first second }
+{
+    if first < second { second } else { first }
 }
 
 impl Shard {
@@ -85,17 +159,12 @@ impl Shard {
     fn append(&mut self, term: &str, doc: u32, positions: &[u32]) -> Result<(), OutOfMemory>
         requires rises { last_document (places_of self.old.places term.now) < doc }
         requires positions { ArePositions positions.now }
-        ensures { OnOk result (self.new ≡ with_place self.old term.now doc positions.now) }
+        ensures number { OnOk result (self.new.number ≡ self.old.number) }
+        ensures places { OnOk result
+            (self.new.places ≡ with_place self.old.places term.now doc positions.now) }
     {
-        if let Some(number) = self.terms.number_of(term) {
-            self.lists[number as usize].append(doc, positions)?;
-        } else {
-            let mut list = Postings::new(*self.lists.allocator());
-            list.append(doc, positions)?;
-            self.terms.insert(term)?;
-            self.lists.push(list)?;
-        }
-        self.last = self.last.max(doc);
+        append_place(&mut self.terms, &mut self.lists, term, doc, positions)?;
+        self.last = later(self.last, doc);
         Ok(())
     }
 
