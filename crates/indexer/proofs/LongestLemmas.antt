@@ -21,7 +21,7 @@ greatest-le f m b (x ∷ xs) within all =
     let first : f x ≤ b = all 0 x (omega arith) in
     greatest-le f (max m (f x)) b xs (omega arith) (λ i d below. all (suc i) d (omega arith))
 
-from-le : {A : Type 0} (f : A → ℕ) (v m : ℕ) (xs : List A) → v ≤ m → v ≤ greatest f m xs
+pub from-le : {A : Type 0} (f : A → ℕ) (v m : ℕ) (xs : List A) → v ≤ m → v ≤ greatest f m xs
 from-le f v m [] within = within
 from-le f v m (x ∷ xs) within = from-le f v (max m (f x)) xs (omega arith)
 
