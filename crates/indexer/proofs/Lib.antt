@@ -4,4 +4,5 @@ pub mod GroupsLemmas
 pub mod LongestLemmas
 pub mod NumberingLemmas
 pub mod ShardLemmas
+pub mod SplitLemmas
 pub mod TotalsLemmas

@@ -1,12 +1,12 @@
 -- The greatest of what items come to.
-use Rattle.std.proofs.Common.{◌≡◌, ℕ, zero, suc, ◌<◌, ◌≤◌, List, [], ◌∷◌, ◌++◌, length, max, fold}
+use Rattle.std.proofs.Common.{◌≡◌, ℕ, suc, ◌≤◌, List, [], ◌∷◌, ◌++◌, length, max, fold}
 use Rattle.std.proofs.Common.{Bool, true, false, get_or, refl, sym, ap, ◌∙◌, arith, chars}
 use Rattle.std.specs.Prelude.{◌||◌}
 use Rattle.std.specs.List.{list_any, All}
 use Rattle.std.specs.Str.{bytes_eq}
 use Rattle.std.proofs.lemmas.List.Folds.{list_any_at}
 use Rattle.std.proofs.lemmas.Slice.Eq.{bytes_eq-Decides}
-use Rattle.indexer.specs.Documents.{Word, longest_in, has_term}
+use Rattle.indexer.specs.Documents.{Word, longest_in}
 use Rattle.indexer.specs.NumberedWords.{AreTermsOf}
 
 -- the greatest, or m if that is greater

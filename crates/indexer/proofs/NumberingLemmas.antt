@@ -1,7 +1,7 @@
 -- The numbers of words, one word more.
-use Rattle.std.proofs.Common.{◌≡◌, ◌≢◌, ℕ, zero, suc, ◌+◌, ◌-◌, ◌<◌, ◌≤◌, List, [], ◌∷◌, ◌++◌, length}
-use Rattle.std.proofs.Common.{Bool, true, false, cond, not, map, take, drop, get_or, Some, None, refl, sym}
-use Rattle.std.proofs.Common.{ap, ap₂, ◌∙◌, arith, filter, append-nil, T, subst}
+use Rattle.std.proofs.Common.{◌≡◌, ℕ, suc, ◌+◌, ◌-◌, ◌<◌, ◌≤◌, List, [], ◌∷◌, ◌++◌, length}
+use Rattle.std.proofs.Common.{Bool, true, false, cond, not, map, take, get_or, Some, None, refl, sym}
+use Rattle.std.proofs.Common.{ap, ap₂, ◌∙◌, arith, filter, append-nil, subst}
 use Rattle.std.specs.Prelude.{◌||◌, nat_lt}
 use Rattle.std.specs.List.{enumerate_from, list_any, All, slice_get}
 use Rattle.std.specs.Str.{bytes_eq}
@@ -15,7 +15,7 @@ use Rattle.std.proofs.lemmas.Option.{get_or_from_slice_get, slice_get_within}
 use Rattle.index_definitions.proofs.NumberedLemmas.{enumerate_from-push, TakesOne, enumerate_from-takes_one}
 use Rattle.text_table.specs.TextTables.{number_of, with_text}
 use Rattle.text_table.proofs.TextTablesLemmas.{slice_get-number, with_text-known, with_text-new}
-use Rattle.indexer.specs.Documents.{Word, has_term, split_words}
+use Rattle.indexer.specs.Documents.{has_term}
 use Rattle.indexer.specs.NumberedWords.{word_at, words_from}
 
 -- a word that is counted

@@ -1,8 +1,7 @@
 -- A shard's terms with their documents, one document more.
-use Rattle.std.proofs.Common.{◌≡◌, ◌≢◌, ℕ, zero, suc, ◌+◌, ◌<◌, ◌≤◌, List, [], ◌∷◌, ◌++◌, length, max}
-use Rattle.std.proofs.Common.{Bool, true, false, cond, Some, None, get_or, set, refl, sym, ap, ap₂, ◌∙◌}
-use Rattle.std.proofs.Common.{arith, Option}
-use Rattle.std.specs.declared.cmp.Ordering.{Ordering}
+use Rattle.std.proofs.Common.{◌≡◌, ◌≢◌, ℕ, zero, suc, ◌<◌, ◌≤◌, List, [], ◌∷◌, ◌++◌, length, max}
+use Rattle.std.proofs.Common.{Bool, true, false, cond, Some, None, get_or, set, refl, sym, ap, ◌∙◌}
+use Rattle.std.proofs.Common.{arith}
 use Rattle.std.specs.declared.cmp.Ordering.TheVariants.{Less, Equal, Greater}
 use Rattle.std.specs.FinMap as finite
 use Rattle.std.specs.FinMap.{find}
@@ -24,12 +23,12 @@ use Rattle.class_laws.specs.Counts.{text_order}
 use Rattle.class_laws.specs.Laws.Counts.{text_order_total, text_order_exact}
 use Rattle.indexer.specs.Shards.{Places, TermPlaces, places_of, last_in}
 use Rattle.indexer.specs.ShardTables.{places_from, last_of}
-use Rattle.indexer.proofs.LongestLemmas.{greatest, greatest-push}
+use Rattle.indexer.proofs.LongestLemmas.{greatest}
 
 -- ---- look-ups among terms with their documents
 
 -- a term that stands nowhere is not found
-find-nowhere : (q : List ℕ) (ts : List (List ℕ)) (ls : List Places)
+pub find-nowhere : (q : List ℕ) (ts : List (List ℕ)) (ls : List Places)
     → ((n : ℕ) → slice_get ts n ≢ Some q) → find text_order q (zip ts ls) ≡ None
 find-nowhere q [] ls nowhere = refl
 find-nowhere q (t ∷ ts) [] nowhere = refl
@@ -52,7 +51,7 @@ tail_distinct t ts distinct i j d before within =
     distinct (suc i) (suc j) d (omega arith) (omega arith)
 
 -- a term's documents stand at its place
-find-place : (q : List ℕ) (ts : List (List ℕ)) (ls : List Places) (n : ℕ) → AreDistinct ts
+pub find-place : (q : List ℕ) (ts : List (List ℕ)) (ls : List Places) (n : ℕ) → AreDistinct ts
     → slice_get ts n ≡ Some q → n < length ls
     → find text_order q (zip ts ls) ≡ Some (get_or ls n [])
 find-place q [] ls n distinct at within = absurd (none-some q at)
@@ -67,7 +66,7 @@ find-place q (t ∷ ts) (l ∷ ls) (suc n) distinct at within =
     first_alone t ts distinct n (at ∙ ap Some ((bytes_eq-Decides q t).0 same))))
     ∙ find-place q ts ls n (tail_distinct t ts distinct) at (omega arith)
 
-get-places_from : (q : List ℕ) (ts : List (List ℕ)) (ls : List Places)
+pub get-places_from : (q : List ℕ) (ts : List (List ℕ)) (ls : List Places)
     → finite.get (places_from ts ls) q ≡ find text_order q (zip ts ls)
 get-places_from q ts ls = finite.get-from_entries text_order_total (zip ts ls) q
 

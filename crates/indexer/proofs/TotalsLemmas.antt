@@ -1,6 +1,6 @@
 -- What the terms of words come to, term by term.
-use Rattle.std.proofs.Common.{◌≡◌, ℕ, ◌%◌, ◌^◌, List, [], ◌∷◌, ◌++◌, map, length, Some, None, cond}
-use Rattle.std.proofs.Common.{true, false, refl, sym, ap, ap₂, ◌∙◌, append-nil}
+use Rattle.std.proofs.Common.{◌≡◌, ℕ, List, [], ◌∷◌, ◌++◌, map, length, Some, None, cond}
+use Rattle.std.proofs.Common.{true, false, refl, sym, ap, ◌∙◌, append-nil}
 use Rattle.std.specs.Prelude.{◌||◌}
 use Rattle.std.specs.FinMap as finite
 use Rattle.std.specs.FinMap.{find}
@@ -8,10 +8,10 @@ use Rattle.std.specs.List.{list_any, zip}
 use Rattle.std.specs.Str.{bytes_eq}
 use Rattle.std.proofs.lemmas.Map.Text.{is_eq-slice_cmp}
 use Rattle.std.proofs.lemmas.Slice.Eq.{bytes_eq-Decides}
-use Rattle.class_laws.specs.Counts.{Counts, text_order}
+use Rattle.class_laws.specs.Counts.{text_order}
 use Rattle.class_laws.specs.CountTables.{count_from, counts_of}
 use Rattle.class_laws.specs.Laws.Counts.{text_order_total, same_counts}
-use Rattle.indexer.specs.Documents.{Word, has_term, positions_of}
+use Rattle.indexer.specs.Documents.{Word, positions_of}
 use Rattle.indexer.specs.NumberedWords.{AreTermsOf}
 use Rattle.indexer.specs.Totals.{counts_in}
 

@@ -4,7 +4,7 @@
 -- contributed.
 use Rattle.std.specs.Prelude.{ℕ, Some}
 use Rattle.std.specs.declared.option.Option.{Option}
-use Rattle.indexer.specs.Documents.{Content, split_content}
+use Rattle.indexer.specs.Documents.{split_content}
 use Rattle.indexer.specs.Totals.{Totals, no_totals, split_totals}
 use Rattle.indexer.specs.Shards.{gathered_content}
 use Rattle.indexer.specs.declared.item.Item.{Item}

@@ -47,7 +47,7 @@ impl Model for CountedWords {
 fn shards_of(alloc: Global, terms: &TextTable) -> Result<Vec<u8>, OutOfMemory>
     ensures { IfOk result (λ shards. shards.items ≡ map shard_of terms.now) }
 {
-    let mut shards = Vec::new(alloc);
+    let mut shards = Vec::with_capacity(alloc, terms.len() as usize)?;
     for number in 0..terms.len() {
         shards.push(shard_of(terms.text(number)))?;
     }

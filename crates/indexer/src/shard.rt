@@ -1,5 +1,6 @@
 // A shard: the postings of the terms that belong to it.
-ghost use Rattle.std.specs.Prelude.{◌≡◌, ℕ, ◌<◌, [], ◌∷◌, ◌++◌, length, max, None, IfOk, OnOk, OnErr};
+ghost use Rattle.std.specs.Prelude.{◌≡◌, ℕ, ◌<◌, [], ◌∷◌, ◌++◌, length, max, Some, None, IfOk, OnOk, OnErr, MatchOption};
+ghost use Rattle.std.specs.FinMap as finite;
 ghost use Rattle.std.specs.List.{slice_index_or, slice_set};
 ghost use Rattle.index_definitions.specs.PostingLists.{ArePositions, last_document};
 ghost use Rattle.text_table.specs.TextTables.{number_of};
@@ -168,11 +169,22 @@ impl Shard {
         Ok(())
     }
 
+    /// The documents of a term. It takes no memory.
+    pub fn places(&self, term: &str) -> Option<&Postings>
+        ensures { MatchOption result (finite.get self.now.places term.now ≡ None)
+            (λ list. finite.get self.now.places term.now ≡ Some list.now) }
+    {
+        let Some(number) = self.terms.number_of(term) else {
+            return None;
+        };
+        Some(&self.lists[number as usize])
+    }
+
     /// A second shard, equal to this one.
     pub(crate) fn copy(&self, alloc: Global) -> Result<Shard, OutOfMemory>
         ensures { IfOk result (λ copy. copy ≡ self.now) }
     {
-        let mut lists = Vec::new(alloc);
+        let mut lists = Vec::with_capacity(alloc, self.lists.len())?;
         for list in &self.lists {
             lists.push(list.copy()?)?;
         }

@@ -1,4 +1,4 @@
-use Rattle.std.proofs.Common.{◌≡◌, ◌<◌, [], ◌∷◌, ◌∙◌, ap, ap₂, sym, arith, length, max, take, get_or}
+use Rattle.std.proofs.Common.{◌<◌, [], ◌∙◌, ap, ap₂, sym, arith, length, max, take, get_or}
 use Rattle.std.proofs.lemmas.List.{take_more}
 use Rattle.std.proofs.lemmas.Option.{get_or_from_slice_get}
 use Rattle.indexer.proofs.LongestLemmas.{greatest, greatest-push, characters}

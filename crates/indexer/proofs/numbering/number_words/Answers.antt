@@ -1,8 +1,7 @@
-use Rattle.std.proofs.Common.{◌≡◌, ◌+◌, [], ◌∷◌, ◌++◌, ◌∙◌, ap, sym, subst, arith, drop, length}
+use Rattle.std.proofs.Common.{◌≡◌, ◌+◌, ◌∷◌, ◌∙◌, ap, sym, subst, arith, drop, length}
 use Rattle.std.proofs.lemmas.List.{length_push}
-use Rattle.std.proofs.lemmas.List.Quantifiers.{all_pairs_push}
 use Rattle.index_definitions.specs.Words.{terms_in}
-use Rattle.index_definitions.proofs.NumberedLemmas.{takes_one, take-none_left}
+use Rattle.index_definitions.proofs.NumberedLemmas.{takes_one}
 use Rattle.indexer.proofs.NumberingLemmas.{Numbers, Numbers-more}
 use Rattle.indexer.proofs.numbering.number_words.Goals as goal
 

@@ -1,7 +1,6 @@
 use Rattle.std.proofs.Common.{◌≡◌, ◌<◌, ◌≤◌, ◌+◌, ◌∙◌, [], ◌∷◌, ap, ap₂, sym, subst, arith, length, drop, get_or, map}
 use Rattle.std.proofs.lemmas.List.{drop_more, drop_all, get_or-map, length-map}
 use Rattle.std.proofs.lemmas.Result.{on_ok_weaker}
-use Rattle.std.specs.FinMap as finite
 use Rattle.text_table.specs.TextTables.{AreDistinct}
 use Rattle.class_laws.specs.Counts.{counts_join}
 use Rattle.class_laws.specs.CountTables.{counts_of}

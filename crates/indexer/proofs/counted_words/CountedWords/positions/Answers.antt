@@ -1,4 +1,4 @@
-use Rattle.std.proofs.Common.{◌≡◌, ◌<◌, [], ◌∙◌, ap, ap₂, subst, sym, arith, length, get_or}
+use Rattle.std.proofs.Common.{◌<◌, [], ◌∙◌, ap, ap₂, subst, sym, arith, length, get_or}
 use Rattle.std.specs.List.{slice_range}
 use Rattle.index_definitions.specs.PostingLists.{ArePositions}
 use Rattle.indexer.specs.Documents.{positions_of}

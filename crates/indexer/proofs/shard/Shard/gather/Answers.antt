@@ -1,8 +1,6 @@
-use Rattle.std.proofs.Common.{◌≡◌, ◌<◌, ◌≤◌, ◌∙◌, ap, sym, subst, arith}
+use Rattle.std.proofs.Common.{◌<◌, ◌∙◌, ap, sym, arith}
 use Rattle.std.proofs.lemmas.Result.{on_ok_weaker}
-use Rattle.indexer.specs.Documents.{split}
 use Rattle.indexer.specs.Shards.{last_in, gathered_content}
-use Rattle.indexer.specs.ShardTables.{last_of}
 use Rattle.indexer.proofs.ShardLemmas.{last_in-from}
 use Rattle.indexer.proofs.GatherLemmas.{gathered-late, gathered-split}
 use Rattle.indexer.proofs.shard.Shard.gather.Goals as goal

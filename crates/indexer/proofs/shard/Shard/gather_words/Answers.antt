@@ -1,10 +1,9 @@
-use Rattle.std.proofs.Common.{◌≡◌, ℕ, refl, ◌≢◌, ◌<◌, ◌≤◌, ◌+◌, [], ◌∷◌, ◌++◌, ◌∙◌, true, false, ap, ap₂, sym, subst, arith}
+use Rattle.std.proofs.Common.{◌≡◌, ℕ, refl, ◌≢◌, ◌<◌, ◌≤◌, [], ◌∙◌, true, false, ap, ap₂, sym, arith}
 use Rattle.std.proofs.Common.{length, take, filter, get_or, map}
 use Rattle.std.specs.Prelude.{◌==◌}
 use Rattle.std.proofs.lemmas.Grind.{common_steps}
 use Rattle.std.proofs.lemmas.List.{take_all}
 use Rattle.index_definitions.specs.PostingLists.{last_document}
-use Rattle.indexer.specs.Documents.{positions_of}
 use Rattle.indexer.specs.Shards.{shard_of, places_of, with_place, with_terms, gathered}
 use Rattle.indexer.specs.Shards.{words_of_shard, ShardParts, TermPlaces}
 use Rattle.indexer.proofs.GatherLemmas.{belongs, with_terms-none, with_terms-push, with_terms-same}
