@@ -13,7 +13,8 @@ use Rattle.std.proofs.lemmas.Slice.Eq.{bytes_eq-Decides}
 use Rattle.index_definitions.specs.PostingLists.{RisesAbove, ArePositions}
 use Rattle.text_table.specs.TextTables.{AreDistinct}
 use Rattle.indexer.specs.Documents.{Word, positions_of}
-use Rattle.indexer.specs.NumberedWords.{word_at, words_from, positions_at, count_through, AreTermsOf}
+use Rattle.indexer.specs.NumberedWords.{word_at, words_from, positions_at, count_through}
+use Rattle.indexer.specs.NumberedWords.{AreTermsOf}
 use Rattle.indexer.proofs.NumberingLemmas.{is_counted}
 use Rattle.indexer.proofs.GroupsLemmas.{position_of}
 
@@ -106,14 +107,16 @@ module _ (ts : List (List ℕ)) (distinct : AreDistinct ts) (k : ℕ) (has : k <
                   ∙ ap (λ b. map (λ (w : Word). w.0) (cond b
                   (word_at ts (m, n) ∷ filter (λ (w : Word). bytes_eq t w.1)
                   (map (word_at ts) (filter is_counted es)))
-                  (filter (λ (w : Word). bytes_eq t w.1) (map (word_at ts) (filter is_counted es)))))
+                  (filter (λ (w : Word). bytes_eq t w.1)
+                  (map (word_at ts) (filter is_counted es)))))
                   (sym (number ∙ is))
               | false ↦ λ is.
                   rest
                   ∙ ap (λ b. map (λ (w : Word). w.0) (cond b
                   (word_at ts (m, n) ∷ filter (λ (w : Word). bytes_eq t w.1)
                   (map (word_at ts) (filter is_counted es)))
-                  (filter (λ (w : Word). bytes_eq t w.1) (map (word_at ts) (filter is_counted es)))))
+                  (filter (λ (w : Word). bytes_eq t w.1)
+                  (map (word_at ts) (filter is_counted es)))))
                   (sym (number ∙ is))
             ] refl
         | false ↦ λ no.

@@ -1,6 +1,7 @@
 -- The numbers of words, one word more.
 use Rattle.std.proofs.Common.{◌≡◌, ℕ, suc, ◌+◌, ◌-◌, ◌<◌, ◌≤◌, List, [], ◌∷◌, ◌++◌, length}
-use Rattle.std.proofs.Common.{Bool, true, false, cond, not, map, take, get_or, Some, None, refl, sym}
+use Rattle.std.proofs.Common.{Bool, true, false, cond, not, map, take, get_or, Some, None, refl}
+use Rattle.std.proofs.Common.{sym}
 use Rattle.std.proofs.Common.{ap, ap₂, ◌∙◌, arith, filter, append-nil, subst}
 use Rattle.std.specs.Prelude.{◌||◌, nat_lt}
 use Rattle.std.specs.List.{enumerate_from, list_any, All, slice_get}
@@ -12,7 +13,8 @@ use Rattle.std.proofs.lemmas.List.{map-append, get_or_append_left, length_push}
 use Rattle.std.proofs.lemmas.List.Elements.{filter-append, All-push}
 use Rattle.std.proofs.lemmas.List.Folds.{list_any-append, list_any_at}
 use Rattle.std.proofs.lemmas.Option.{get_or_from_slice_get, slice_get_within}
-use Rattle.index_definitions.proofs.NumberedLemmas.{enumerate_from-push, TakesOne, enumerate_from-takes_one}
+use Rattle.index_definitions.proofs.NumberedLemmas.{enumerate_from-push, TakesOne}
+use Rattle.index_definitions.proofs.NumberedLemmas.{enumerate_from-takes_one}
 use Rattle.text_table.specs.TextTables.{number_of, with_text}
 use Rattle.text_table.proofs.TextTablesLemmas.{slice_get-number, with_text-known, with_text-new}
 use Rattle.indexer.specs.Documents.{has_term}
@@ -30,7 +32,8 @@ pub words_from-push :
     ++ map (word_at ts) (cond (nat_lt 0 n) ((1 + length ns, n) ∷ []) [])
 words_from-push ts ns n =
     ap (λ es. map (word_at ts) (filter is_counted es)) (enumerate_from-push 1 ns n)
-    ∙ ap (map (word_at ts)) (filter-append is_counted (enumerate_from 1 ns) ((1 + length ns, n) ∷ []))
+    ∙ ap (map (word_at ts))
+    (filter-append is_counted (enumerate_from 1 ns) ((1 + length ns, n) ∷ []))
     ∙ map-append (word_at ts) (filter is_counted (enumerate_from 1 ns))
     (cond (nat_lt 0 n) ((1 + length ns, n) ∷ []) [])
 
@@ -87,7 +90,8 @@ words_from-more ts us ns within = words_more ts us 1 ns within
 pub record Numbers (stopped ts all : List (List ℕ)) (ns : List ℕ) : Type 0 where
   pub words : words_from ts ns
       ≡ filter (λ word. not (has_term stopped word.1)) (enumerate_from 1 (take (length ns) all))
-  pub members : (q : List ℕ) → has_term ts q ≡ list_any (λ word. bytes_eq q word.1) (words_from ts ns)
+  pub members : (q : List ℕ)
+      → has_term ts q ≡ list_any (λ word. bytes_eq q word.1) (words_from ts ns)
   pub within : All (λ n. n ≤ length ts) ns
   pub counted : All (λ t. has_term stopped t ≡ false) ts
   pub few : length ts ≤ length ns
@@ -109,7 +113,8 @@ absorbed false false is = refl
 
 module _ (stopped ts all : List (List ℕ)) (ns : List ℕ) (term : List ℕ) (left : List (List ℕ))
     (before : Numbers stopped ts all ns) (one : TakesOne all (length ns) term left) where
-  all_words : filter (λ word. not (has_term stopped word.1)) (enumerate_from 1 (take (length ns + 1) all))
+  all_words :
+      filter (λ word. not (has_term stopped word.1)) (enumerate_from 1 (take (length ns + 1) all))
       ≡ words_from ts ns
       ++ cond (not (has_term stopped term)) ((length ns + 1, term) ∷ []) []
   all_words =
@@ -124,7 +129,8 @@ module _ (stopped ts all : List (List ℕ)) (ns : List ℕ) (term : List ℕ) (l
   stopped_word is = record {
     words = words_from-stopped ts ns
         ∙ sym (append-nil (words_from ts ns))
-        ∙ sym (ap (λ k. filter (λ word. not (has_term stopped word.1)) (enumerate_from 1 (take k all)))
+        ∙ sym (ap (λ k. filter (λ word. not (has_term stopped word.1))
+        (enumerate_from 1 (take k all)))
         (length_push ns 0)
         ∙ all_words
         ∙ ap (λ b. words_from ts ns ++ cond (not b) ((length ns + 1, term) ∷ []) []) is);
@@ -148,7 +154,8 @@ module _ (stopped ts all : List (List ℕ)) (ns : List ℕ) (term : List ℕ) (l
       ap (λ xs. words_from xs ns) more ∙ words_from-more ts ws ns before.within in
       let new : words_from us (ns ++ n ∷ []) ≡ words_from ts ns ++ (length ns + 1, term) ∷ [] =
       words_from-counted us ns n some
-      ∙ ap₂ (λ vs t. vs ++ (1 + length ns, t) ∷ []) old (get_or_from_slice_get us (n - 1) term [] at)
+      ∙ ap₂ (λ vs t. vs ++ (1 + length ns, t) ∷ []) old
+      (get_or_from_slice_get us (n - 1) term [] at)
       ∙ ap (λ k. words_from ts ns ++ (k, term) ∷ []) (omega arith) in
       record {
         words = new

@@ -1,5 +1,6 @@
 -- What is a shard, and what does it become when a document is gathered into it?
-use Rattle.std.specs.Prelude.{ℕ, ◌%◌, ◌==◌, Bool, nat_lt, List, [], ◌∷◌, ◌++◌, map, filter, max, fold}
+use Rattle.std.specs.Prelude.{ℕ, ◌%◌, ◌==◌, Bool, nat_lt, List, [], ◌∷◌, ◌++◌, map, filter, max}
+use Rattle.std.specs.Prelude.{fold}
 use Rattle.std.specs.Prelude.{sum, refl, if◌then◌else◌}
 use Rattle.std.specs.Coded.{Coded, code_by, coded×, coded_ℕ, coded_list}
 use Rattle.std.specs.FinMap as finite
@@ -26,7 +27,8 @@ pub record ShardParts : Type 0 where
 abbrev pub shard_code : Coded ShardParts
 shard_code =
     code_by (ℕ × TermPlaces)
-    (coded× coded_ℕ (finite.code (coded_list coded_ℕ) (coded_list (coded× coded_ℕ (coded_list coded_ℕ)))))
+    (coded× coded_ℕ (finite.code (coded_list coded_ℕ)
+    (coded_list (coded× coded_ℕ (coded_list coded_ℕ)))))
     (λ shard. (shard.number, shard.places))
     (λ pair. record { number = pair.0; places = pair.1 }) (λ _. refl)
 
@@ -46,7 +48,7 @@ words_of_shard number words = filter (λ word. shard_of word.1 == number) words
 abbrev pub places_of : TermPlaces → List ℕ → Places
 places_of places term = unwrap_or (finite.get places term) []
 
--- the last of all documents, or 0
+-- the last of all documents, or 0: at each term documents rise
 abbrev pub last_in : TermPlaces → ℕ
 last_in places = fold (λ last entry. max last (last_document entry.1)) 0 (finite.entries places)
 

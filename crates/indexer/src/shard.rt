@@ -1,5 +1,6 @@
 // A shard: the postings of the terms that belong to it.
-ghost use Rattle.std.specs.Prelude.{◌≡◌, ℕ, ◌<◌, [], ◌∷◌, ◌++◌, length, max, Some, None, IfOk, OnOk, OnErr, MatchOption};
+ghost use Rattle.std.specs.Prelude.{◌≡◌, ℕ, ◌<◌, [], ◌∷◌, ◌++◌, length, max, Some, None, IfOk};
+ghost use Rattle.std.specs.Prelude.{OnOk, OnErr, MatchOption};
 ghost use Rattle.std.specs.FinMap as finite;
 ghost use Rattle.std.specs.List.{slice_index_or, slice_set};
 ghost use Rattle.index_definitions.specs.PostingLists.{ArePositions, last_document};

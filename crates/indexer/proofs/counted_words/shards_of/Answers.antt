@@ -1,4 +1,5 @@
-use Rattle.std.proofs.Common.{◌<◌, [], ◌∷◌, ◌++◌, ◌∙◌, ap, ap₂, sym, arith, length, map, take, get_or}
+use Rattle.std.proofs.Common.{◌<◌, [], ◌∷◌, ◌++◌, ◌∙◌, ap, ap₂, sym, arith, length, map, take}
+use Rattle.std.proofs.Common.{get_or}
 use Rattle.std.proofs.lemmas.List.{take_more, map-append}
 use Rattle.std.proofs.lemmas.Option.{get_or_from_slice_get}
 use Rattle.indexer.specs.Shards.{shard_of}

@@ -1,4 +1,5 @@
-use Rattle.std.proofs.Common.{◌≡◌, ◌+◌, ◌-◌, ◌<◌, ◌∙◌, [], ◌∷◌, ◌++◌, Bool, true, false, Some, sym, ap, arith, length}
+use Rattle.std.proofs.Common.{◌≡◌, ◌+◌, ◌-◌, ◌<◌, ◌∙◌, [], ◌∷◌, ◌++◌, Bool, true, false, Some, sym}
+use Rattle.std.proofs.Common.{ap, arith, length}
 use Rattle.std.specs.Prelude.{MatchBool}
 use Rattle.std.specs.List.{slice_get}
 use Rattle.std.specs.Option.{unwrap_or}
@@ -42,7 +43,8 @@ returns c =
     let new = c.in_ok-insert.ensures.ok ∙ with_text-new texts term none in
     let last : n + 1 - 1 ≡ length texts =
     omega (arith, c.in_ok-insert.ensures.number ∙ ap (λ o. unwrap_or o (length texts)) none) in
-    let within : length texts < length (texts ++ term ∷ []) = omega (arith, length_push texts term) in
+    let within : length texts < length (texts ++ term ∷ []) =
+    omega (arith, length_push texts term) in
     fails _ _ (has_term c.args.stop.now term)
     (sym c.contains.ensures.member ∙ c.if-contains.false) (
       omega arith,

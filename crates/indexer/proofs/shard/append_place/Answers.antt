@@ -1,4 +1,5 @@
-use Rattle.std.proofs.Common.{◌<◌, ◌+◌, [], ◌∷◌, ◌++◌, ◌∙◌, ap, ap₂, sym, subst, arith, length, max, get_or}
+use Rattle.std.proofs.Common.{◌<◌, ◌+◌, [], ◌∷◌, ◌++◌, ◌∙◌, ap, ap₂, sym, subst, arith, length, max}
+use Rattle.std.proofs.Common.{get_or}
 use Rattle.std.proofs.lemmas.List.{length_push}
 use Rattle.std.proofs.lemmas.Option.{slice_get_within}
 use Rattle.std.proofs.lemmas.Result.{on_ok_weaker}
@@ -7,7 +8,8 @@ use Rattle.index_definitions.specs.PostingLists.{last_document}
 use Rattle.text_table.proofs.TextTablesLemmas.{slice_get-number, AreDistinct-added}
 use Rattle.indexer.specs.ShardTables.{places_from, last_of}
 use Rattle.indexer.proofs.LongestLemmas.{greatest-push}
-use Rattle.indexer.proofs.ShardLemmas.{places_of-new, places_of-at, places_from-push, places_from-set}
+use Rattle.indexer.proofs.ShardLemmas.{places_of-new, places_of-at, places_from-push}
+use Rattle.indexer.proofs.ShardLemmas.{places_from-set}
 use Rattle.indexer.proofs.ShardLemmas.{greatest-set, last_document-push}
 use Rattle.indexer.proofs.shard.append_place.Goals as goal
 

@@ -1,4 +1,5 @@
-use Rattle.std.proofs.Common.{◌≡◌, ◌<◌, ◌≤◌, ◌+◌, ◌∙◌, [], ◌∷◌, ap, ap₂, sym, subst, arith, length, drop, get_or, map}
+use Rattle.std.proofs.Common.{◌≡◌, ◌<◌, ◌≤◌, ◌+◌, ◌∙◌, [], ◌∷◌, ap, ap₂, sym, subst, arith, length}
+use Rattle.std.proofs.Common.{drop, get_or, map}
 use Rattle.std.proofs.lemmas.List.{drop_more, drop_all, get_or-map, length-map}
 use Rattle.std.proofs.lemmas.Result.{on_ok_weaker}
 use Rattle.text_table.specs.TextTables.{AreDistinct}
@@ -35,7 +36,8 @@ loop-number-preserved c =
     drop_more ns k 0 (omega (arith, len, has)) ∙ ap (λ n. n ∷ drop (k + 1) ns) size_is in
     ap (λ counts. counts_join counts left) c.in_ok-add.ensures.ok
     ∙ counts_join-first before term size (drop (k + 1) ts) (drop (k + 1) ns)
-    (subst AreDistinct split_terms (AreDistinct-drop k ts c.terms-number-end.ensures.terms.distinct))
+    (subst AreDistinct split_terms
+    (AreDistinct-drop k ts c.terms-number-end.ensures.terms.distinct))
     ∙ ap (counts_join before) (sym (ap₂ counts_of split_terms split_sizes))
     ∙ c.loop-number.invariant
 

@@ -1,4 +1,5 @@
-use Rattle.std.proofs.Common.{◌≡◌, ℕ, refl, ◌≢◌, ◌<◌, ◌≤◌, [], ◌∙◌, true, false, ap, ap₂, sym, arith}
+use Rattle.std.proofs.Common.{◌≡◌, ℕ, refl, ◌≢◌, ◌<◌, ◌≤◌, [], ◌∙◌, true, false, ap, ap₂, sym}
+use Rattle.std.proofs.Common.{arith}
 use Rattle.std.proofs.Common.{length, take, filter, get_or, map}
 use Rattle.std.specs.Prelude.{◌==◌}
 use Rattle.std.proofs.lemmas.Grind.{common_steps}
@@ -10,7 +11,8 @@ use Rattle.indexer.proofs.GatherLemmas.{belongs, with_terms-none, with_terms-pus
 use Rattle.indexer.proofs.GatherLemmas.{places_of-other, places_of-last, not_yet, same_terms}
 use Rattle.indexer.proofs.GatherLemmas.{belonging-more, belonging-same}
 use Rattle.indexer.proofs.shard.Shard.gather_words.Goals as goal
-use Rattle.indexer.proofs.shard.Shard.gather_words.Goals.{then-shard-self+in_ok-append, else-shard-self}
+use Rattle.indexer.proofs.shard.Shard.gather_words.Goals.{then-shard-self+in_ok-append}
+use Rattle.indexer.proofs.shard.Shard.gather_words.Goals.{else-shard-self}
 
 equal_test : (a b : ℕ) → a ≡ b → (a == b) ≡ true
 equal_test a b same = grind (arith, common_steps)
@@ -69,7 +71,8 @@ loop-number-preserved c =
             places = ap (λ s. s.places) w.self-is ∙ w.in_ok-append.ensures.places
                 ∙ ap (λ p. with_place p w.term.result.now c.args.doc w.positions.result.now)
                 so_far.places
-                ∙ ap₂ (λ u ps. with_place (with_terms before.places c.args.doc ws own) u c.args.doc ps)
+                ∙ ap₂ (λ u ps.
+                with_place (with_terms before.places c.args.doc ws own) u c.args.doc ps)
                 w.term.ensures w.positions.ensures.positions
                 ∙ with_terms-push before.places c.args.doc ws own t other
                 ∙ ap (with_terms before.places c.args.doc ws)
