@@ -1,5 +1,5 @@
 // The postings of one term, as plain lists.
-ghost use Rattle.std.specs.Prelude.{◌≡◌, ◌<◌, [], ◌∷◌, ◌++◌, length, OnOk, OnErr};
+ghost use Rattle.std.specs.Prelude.{◌≡◌, ◌<◌, [], ◌∷◌, ◌++◌, length, IfOk, OnOk, OnErr};
 ghost use Rattle.std.specs.Iterator.{YieldsFirst, item_count};
 ghost use Rattle.index_definitions.specs.PostingLists.{ListsPostings, ArePositions};
 ghost use Rattle.index_definitions.specs.PostingLists.{last_document, pairs_of};
@@ -77,6 +77,20 @@ impl Postings {
         };
         push_place(&mut self.places, place)?;
         Ok(())
+    }
+
+    /// A second list, equal to this one.
+    pub fn copy(&self) -> Result<Postings, OutOfMemory>
+        ensures { IfOk result (λ copy. copy ≡ self.now) }
+    {
+        let mut places = Vec::with_capacity(*self.places.allocator(), self.places.len())?;
+        for place in &self.places {
+            places.push(Place {
+                document: place.document,
+                positions: place.positions.clone()?,
+            })?;
+        }
+        Ok(Postings { places })
     }
 
     /// All pairs of document and position, in order. It takes no memory.

@@ -8,8 +8,10 @@ fn postings_come_back_in_order(rt: HostRuntime) -> Result<(), Fail> {
     let mut postings = Postings::new(alloc);
     postings.append(1, &[1, 3])?;
     postings.append(4, &[2])?;
-    let pairs: Vec<(u32, u32)> = postings.iter().collect(alloc)?;
-    assert_eq!(rt; pairs.as_slice(), [(1, 1), (1, 3), (4, 2)].as_slice());
+    for postings in [&postings, &postings.copy()?] {
+        let pairs: Vec<(u32, u32)> = postings.iter().collect(alloc)?;
+        assert_eq!(rt; pairs.as_slice(), [(1, 1), (1, 3), (4, 2)].as_slice());
+    }
     assert_eq!(rt; postings.documents(), 2);
     Ok(())
 }

@@ -1,0 +1,241 @@
+-- A document gathered into a shard, term by term.
+use Rattle.std.proofs.Common.{◌≡◌, ◌≢◌, ℕ, suc, ◌+◌, ◌<◌, ◌≤◌, List, [], ◌∷◌, ◌++◌, length, max}
+use Rattle.std.proofs.Common.{Bool, true, false, cond, Some, get_or, take, map, refl, sym, ap, ap₂}
+use Rattle.std.proofs.Common.{◌∙◌, arith, filter, append-nil}
+use Rattle.std.specs.Prelude.{◌||◌, ◌&&◌, ◌==◌}
+use Rattle.std.specs.FinMap as finite
+use Rattle.std.specs.FinMap.{find}
+use Rattle.std.specs.List.{list_any}
+use Rattle.std.specs.Option.{unwrap_or}
+use Rattle.std.specs.Ordering.{eq_by_cmp}
+use Rattle.std.specs.Str.{bytes_eq}
+use Rattle.std.proofs.lemmas.Bool.{false_from_ne_true}
+use Rattle.std.proofs.lemmas.Grind.{common_steps}
+use Rattle.std.proofs.lemmas.List.{take_more, length-take-le, get_or-take}
+use Rattle.std.proofs.lemmas.List.Elements.{filter-append}
+use Rattle.std.proofs.lemmas.List.Folds.{list_any-append}
+use Rattle.std.proofs.lemmas.Map.Text.{is_eq-slice_cmp}
+use Rattle.std.proofs.lemmas.Map.Views.{any-filter_same}
+use Rattle.std.proofs.lemmas.Slice.Eq.{bytes_eq-Decides}
+use Rattle.index_definitions.specs.PostingLists.{last_document}
+use Rattle.text_table.specs.TextTables.{AreDistinct}
+use Rattle.class_laws.specs.Counts.{text_order}
+use Rattle.class_laws.specs.Laws.Counts.{text_order_total, text_order_exact}
+use Rattle.indexer.specs.Documents.{Word, Content, whole, split, IsWhole, has_term, positions_of}
+use Rattle.indexer.specs.Shards.{Places, TermPlaces, ShardParts, places_of, last_in, comes_last}
+use Rattle.indexer.specs.Shards.{shard_of, words_of_shard, with_place, with_document, with_terms}
+use Rattle.indexer.specs.Shards.{gathered, gathered_content}
+use Rattle.indexer.specs.NumberedWords.{AreTermsOf}
+use Rattle.indexer.proofs.LongestLemmas.{greatest, from-le}
+use Rattle.indexer.proofs.TotalsLemmas.{find_keyed}
+use Rattle.indexer.proofs.ShardLemmas.{entry_last}
+
+-- ---- what a look-up finds after documents were appended
+
+module _ (places : TermPlaces) (document : ℕ) (ws : List Word) where
+  -- what is appended to a term
+  abbrev pub more : List ℕ → Places
+  more q = (document, positions_of q ws) ∷ []
+
+  pub get-with_terms : (ts : List (List ℕ)) (q : List ℕ)
+      → finite.get (with_terms places document ws ts) q
+      ≡ cond (has_term ts q) (Some (places_of places q ++ more q)) (finite.get places q)
+  get-with_terms ts q =
+      finite.get-from_entries text_order_total
+      (map (with_document places document ws) ts ++ finite.entries places) q
+      ∙ find_keyed (λ (t : List ℕ). t) (λ t. places_of places t ++ more t) q ts
+      (finite.entries places)
+      ∙ ap (cond (has_term ts q) (Some (places_of places q ++ more q)))
+      (sym (finite.get-entries places q))
+
+  -- the same terms make the same map
+  pub with_terms-same : (ts us : List (List ℕ))
+      → ((q : List ℕ) → has_term ts q ≡ has_term us q)
+      → with_terms places document ws ts ≡ with_terms places document ws us
+  with_terms-same ts us same =
+      finite.same_map text_order_total text_order_exact _ _ (λ q.
+      get-with_terms ts q
+      ∙ ap (λ b. cond b (Some (places_of places q ++ more q)) (finite.get places q)) (same q)
+      ∙ sym (get-with_terms us q))
+
+  -- no terms change nothing
+  pub with_terms-none : with_terms places document ws [] ≡ places
+  with_terms-none =
+      finite.same_map text_order_total text_order_exact _ _ (λ q. get-with_terms [] q)
+
+  pub places_of-other : (ts : List (List ℕ)) (t : List ℕ) → has_term ts t ≡ false
+      → places_of (with_terms places document ws ts) t ≡ places_of places t
+  places_of-other ts t other =
+      ap (λ o. unwrap_or o [])
+      (get-with_terms ts t
+      ∙ ap (λ b. cond b (Some (places_of places t ++ more t)) (finite.get places t)) other)
+
+  inserted : (ts : List (List ℕ)) (t q : List ℕ)
+      → cond (bytes_eq q t) (Some (places_of places t ++ more t))
+      (cond (has_term ts q) (Some (places_of places q ++ more q)) (finite.get places q))
+      ≡ cond (has_term (ts ++ t ∷ []) q) (Some (places_of places q ++ more q)) (finite.get places q)
+  inserted ts t q =
+      elim (bytes_eq q t) as (λ b. bytes_eq q t ≡ b
+      → cond b (Some (places_of places t ++ more t))
+      (cond (has_term ts q) (Some (places_of places q ++ more q)) (finite.get places q))
+      ≡ cond (has_term ts q || (b || false))
+      (Some (places_of places q ++ more q)) (finite.get places q)) [
+        | true ↦ λ same.
+            let is : q ≡ t = (bytes_eq-Decides q t).0 same in
+            ap (λ k. Some (places_of places k ++ more k)) (sym is)
+            ∙ elim (has_term ts q) as (λ b. Some (places_of places q ++ more q)
+            ≡ cond (b || true) (Some (places_of places q ++ more q)) (finite.get places q)) [
+              | true ↦ refl
+              | false ↦ refl
+            ]
+        | false ↦ λ _.
+            elim (has_term ts q) as (λ b.
+            cond b (Some (places_of places q ++ more q)) (finite.get places q)
+            ≡ cond (b || false) (Some (places_of places q ++ more q)) (finite.get places q)) [
+              | true ↦ refl
+              | false ↦ refl
+            ]
+      ] refl
+      ∙ sym (ap (λ b. cond b (Some (places_of places q ++ more q)) (finite.get places q))
+      (list_any-append (bytes_eq q) ts (t ∷ [])))
+
+  -- a document is appended to one term more
+  pub with_terms-push : (ts : List (List ℕ)) (t : List ℕ) → has_term ts t ≡ false
+      → with_place (with_terms places document ws ts) t document (positions_of t ws)
+      ≡ with_terms places document ws (ts ++ t ∷ [])
+  with_terms-push ts t other =
+      let before = with_terms places document ws ts in
+      ap (λ l. finite.insert before t (l ++ more t)) (places_of-other ts t other)
+      ∙ finite.same_map text_order_total text_order_exact _ _ (λ q.
+      finite.get-insert text_order_total before t (places_of places t ++ more t) q
+      ∙ ap₂ (λ b o. cond b (Some (places_of places t ++ more t)) o)
+      (is_eq-slice_cmp q t) (get-with_terms ts q)
+      ∙ inserted ts t q
+      ∙ sym (get-with_terms (ts ++ t ∷ []) q))
+
+-- ---- the terms of a shard
+
+-- whether the term belongs to the shard
+abbrev pub belongs : ℕ → List ℕ → Bool
+belongs number t = shard_of t == number
+
+pub belonging-more :
+    (number : ℕ) (ts : List (List ℕ)) (k : ℕ) → k < length ts
+    → belongs number (get_or ts k []) ≡ true
+    → filter (belongs number) (take (k + 1) ts)
+    ≡ filter (belongs number) (take k ts) ++ get_or ts k [] ∷ []
+belonging-more number ts k has is =
+    let t = get_or ts k [] in
+    ap (filter (belongs number)) (take_more ts k [] has)
+    ∙ filter-append (belongs number) (take k ts) (t ∷ [])
+    ∙ ap (λ b. filter (belongs number) (take k ts) ++ cond b (t ∷ []) []) is
+
+pub belonging-same :
+    (number : ℕ) (ts : List (List ℕ)) (k : ℕ) → k < length ts
+    → belongs number (get_or ts k []) ≡ false
+    → filter (belongs number) (take (k + 1) ts) ≡ filter (belongs number) (take k ts)
+belonging-same number ts k has is =
+    let t = get_or ts k [] in
+    ap (filter (belongs number)) (take_more ts k [] has)
+    ∙ filter-append (belongs number) (take k ts) (t ∷ [])
+    ∙ ap (λ b. filter (belongs number) (take k ts) ++ cond b (t ∷ []) []) is
+    ∙ append-nil (filter (belongs number) (take k ts))
+
+-- a later term isn't among the terms before it
+not_before :
+    (ts : List (List ℕ)) (t : List ℕ)
+    → ((i : ℕ) → i < length ts → get_or ts i [] ≢ t) → has_term ts t ≡ false
+not_before [] t other = refl
+not_before (u ∷ ts) t other =
+    ap₂ (λ a b. a || b)
+    (false_from_ne_true (bytes_eq t u) (λ same.
+    other 0 (omega arith) (sym ((bytes_eq-Decides t u).0 same))))
+    (not_before ts t (λ i within. other (suc i) (omega arith)))
+
+-- a filter keeps out what isn't there
+filtered_out :
+    (p : List ℕ → Bool) (t : List ℕ) (ts : List (List ℕ))
+    → has_term ts t ≡ false → has_term (filter p ts) t ≡ false
+filtered_out p t [] none = refl
+filtered_out p t (u ∷ ts) none =
+    elim (bytes_eq t u) as (λ b. bytes_eq t u ≡ b → (b || has_term ts t) ≡ false
+    → has_term (filter p (u ∷ ts)) t ≡ false) [
+      | true ↦ λ _ no. cc
+      | false ↦ λ other rest.
+          elim (p u) as (λ b. has_term (cond b (u ∷ filter p ts) (filter p ts)) t ≡ false) [
+            | true ↦ ap (λ b. b || has_term (filter p ts) t) other ∙ filtered_out p t ts rest
+            | false ↦ filtered_out p t ts rest
+          ]
+    ] refl none
+
+pub not_yet :
+    (number : ℕ) (ts : List (List ℕ)) (k : ℕ) → AreDistinct ts → k < length ts
+    → has_term (filter (belongs number) (take k ts)) (get_or ts k []) ≡ false
+not_yet number ts k distinct has =
+    let len = length-take-le k ts (omega arith) in
+    filtered_out (belongs number) (get_or ts k []) (take k ts)
+    (not_before (take k ts) (get_or ts k []) (λ i within same.
+    distinct i k [] (omega (arith, len, within)) has
+    (sym (get_or-take k ts i [] (omega (arith, len, within))) ∙ same)))
+
+-- ---- the terms of the words that belong to the shard are the terms that belong to it
+
+list_any-map :
+    {A B : Type 0} (f : A → B) (p : B → Bool) (xs : List A)
+    → list_any p (map f xs) ≡ list_any (λ x. p (f x)) xs
+list_any-map f p [] = refl
+list_any-map f p (x ∷ xs) = ap (λ b. p (f x) || b) (list_any-map f p xs)
+
+pub same_terms :
+    (number : ℕ) (ts : List (List ℕ)) (ws : List Word) → AreTermsOf ts ws
+    → (q : List ℕ)
+    → has_term (filter (belongs number) ts) q
+    ≡ has_term (map (λ word. word.1) (words_of_shard number ws)) q
+same_terms number ts ws are q =
+    any-filter_same (bytes_eq q) (belongs number) (belongs number q)
+    (λ t same. ap (belongs number) (sym ((bytes_eq-Decides q t).0 same))) ts
+    ∙ ap (λ b. belongs number q && b) (are.members q)
+    ∙ sym (list_any-map (λ (w : Word). w.1) (bytes_eq q) (words_of_shard number ws)
+    ∙ any-filter_same (λ (w : Word). bytes_eq q w.1) (λ w. belongs number w.1) (belongs number q)
+    (λ w same. ap (belongs number) (sym ((bytes_eq-Decides q w.1).0 same))) ws)
+
+-- ---- a term's last document is no later than the last
+
+found_last : (q : List ℕ) (m : ℕ) (es : List (List ℕ × Places))
+    → last_document (unwrap_or (find text_order q es) []) ≤ greatest entry_last m es
+found_last q m [] = omega arith
+found_last q m (e ∷ es) =
+    elim (eq_by_cmp text_order q e.0) as (λ b.
+    last_document (unwrap_or (cond b (Some e.1) (find text_order q es)) [])
+    ≤ greatest entry_last (max m (entry_last e)) es) [
+      | true ↦ from-le entry_last (last_document e.1) (max m (entry_last e)) es (omega arith)
+      | false ↦ found_last q (max m (entry_last e)) es
+    ]
+
+pub places_of-last : (places : TermPlaces) (q : List ℕ)
+    → last_document (places_of places q) ≤ last_in places
+places_of-last places q =
+    let found = found_last q 0 (finite.entries places) in
+    let is = ap (λ o. last_document (unwrap_or o [])) (finite.get-entries places q) in
+    omega (arith, found, is)
+
+-- ---- when nothing is gathered
+
+pub gathered-late : (shard : ShardParts) (document : ℕ) (content : Content)
+    → document ≤ last_in shard.places → shard ≡ gathered_content shard document content
+gathered-late shard document (whole bytes) late = refl
+gathered-late shard document (split ws) late =
+    let no : comes_last shard.places document ≡ false = grind (arith, common_steps) in
+    ap (λ b. cond b (gathered shard document ws) shard) (sym no)
+
+pub gathered-whole : (shard : ShardParts) (document : ℕ) (content : Content)
+    → IsWhole content → shard ≡ gathered_content shard document content
+gathered-whole shard document (whole bytes) is = refl
+gathered-whole shard document (split ws) is = absurd is
+
+pub gathered-split : (shard : ShardParts) (document : ℕ) (ws : List Word)
+    → last_in shard.places < document
+    → gathered shard document ws ≡ gathered_content shard document (split ws)
+gathered-split shard document ws late =
+    let yes : comes_last shard.places document ≡ true = grind (arith, common_steps) in
+    ap (λ b. cond b (gathered shard document ws) shard) (sym yes)

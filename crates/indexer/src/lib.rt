@@ -1,0 +1,20 @@
+//! The items of the index: documents, which are split into words, and shards of the terms, into
+//! which documents are gathered.
+#![tactic(auto)]
+
+mod counted_words;
+mod document;
+mod groups;
+mod item;
+mod numbering;
+mod shard;
+mod shard_of;
+mod totals;
+
+pub use document::Document;
+pub use item::{Item, ItemOp};
+pub use shard::Shard;
+pub use totals::Totals;
+
+#[cfg(test)]
+mod tests;

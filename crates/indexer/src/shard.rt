@@ -1,0 +1,199 @@
+// A shard: the postings of the terms that belong to it.
+ghost use Rattle.std.specs.Prelude.{◌≡◌, ℕ, ◌<◌, [], ◌∷◌, ◌++◌, length, max, Some, None, IfOk};
+ghost use Rattle.std.specs.Prelude.{OnOk, OnErr, MatchOption};
+ghost use Rattle.std.specs.FinMap as finite;
+ghost use Rattle.std.specs.List.{slice_index_or, slice_set};
+ghost use Rattle.index_definitions.specs.PostingLists.{ArePositions, last_document};
+ghost use Rattle.text_table.specs.TextTables.{number_of};
+ghost use Rattle.indexer.specs.ShardTables.{ArePaired, places_from, last_of};
+ghost use Rattle.indexer.specs.Shards.{empty_shard, last_in, places_of};
+ghost use Rattle.indexer.specs.Shards.{with_place, gathered, gathered_content};
+
+use crate::counted_words::CountedWords;
+use crate::document::Document;
+use postings::Postings;
+use ss_base::OutOfMemory;
+use std::alloc::Global;
+use std::marker::Model;
+use text_table::TextTable;
+
+/// A shard. Contracts see its number, and the finite map from its terms to their documents, each
+/// with its positions.
+#[derive(Drop)]
+pub struct Shard {
+    number: u8,
+    // the terms, and the postings of each at its number
+    terms: TextTable,
+    lists: Vec<Postings>,
+    // the last document, or 0
+    last: u32,
+}
+
+impl Model for Shard {
+    ghost use Rattle.indexer.specs.Shards.{ShardParts, shard_code};
+
+    ghost Value = { ShardParts };
+
+    ghost coded = { shard_code };
+
+    ghost use Rattle.indexer.specs.ShardTables.{parts_from, IsShardTable};
+
+    ghost view = { λ shard. parts_from shard.number shard.terms shard.lists.items };
+
+    ghost invariant = { λ shard. IsShardTable shard.terms shard.lists.items shard.last };
+}
+
+// Appends a document to a list of postings.
+fn append_at(
+    lists: &mut Vec<Postings>,
+    number: usize,
+    doc: u32,
+    positions: &[u32],
+) -> Result<(), OutOfMemory>
+    requires within { number < length lists.old.items }
+    requires rises { last_document (slice_index_or lists.old.items number []) < doc }
+    requires positions { ArePositions positions.now }
+    ensures ok { OnOk result (lists.new.items ≡ slice_set lists.old.items number
+        (slice_index_or lists.old.items number [] ++ (doc, positions.now) ∷ [])) }
+    ensures err { OnErr result (lists.new.items ≡ lists.old.items) }
+{
+    let list = &mut lists[number];
+    list.append(doc, positions)
+}
+
+// Adds a term that is not there, with its postings.
+fn push_both(
+    terms: &mut TextTable,
+    lists: &mut Vec<Postings>,
+    term: &str,
+    list: Postings,
+) -> Result<(), OutOfMemory>
+    requires { number_of terms.old term.now ≡ None }
+    ensures terms { OnOk result (terms.new ≡ terms.old ++ term.now ∷ []) }
+    ensures lists { OnOk result (lists.new.items ≡ lists.old.items ++ list ∷ []) }
+    ensures same_terms { OnErr result (terms.new ≡ terms.old) }
+    ensures same_lists { OnErr result (lists.new.items ≡ lists.old.items) }
+{
+    lists.push(list)?;
+    if let Err(error) = terms.insert(term) {
+        lists.pop();
+        return Err(error);
+    }
+    Ok(())
+}
+
+// Appends a document to a term, which is added if it is new.
+fn append_place(
+    terms: &mut TextTable,
+    lists: &mut Vec<Postings>,
+    term: &str,
+    doc: u32,
+    positions: &[u32],
+) -> Result<(), OutOfMemory>
+    requires pairs { ArePaired terms.old lists.old.items }
+    requires rises { last_document (places_of (places_from terms.old lists.old.items) term.now)
+        < doc }
+    requires positions { ArePositions positions.now }
+    ensures pairs { ArePaired terms.new lists.new.items }
+    ensures places { OnOk result (places_from terms.new lists.new.items
+        ≡ with_place (places_from terms.old lists.old.items) term.now doc positions.now) }
+    ensures last { OnOk result (last_of lists.new.items ≡ max (last_of lists.old.items) doc) }
+    ensures same_last { OnErr result (last_of lists.new.items ≡ last_of lists.old.items) }
+{
+    let Some(number) = terms.number_of(term) else {
+        let mut list = Postings::new(*lists.allocator());
+        list.append(doc, positions)?;
+        push_both(terms, lists, term, list)?;
+        return Ok(());
+    };
+    append_at(lists, number as usize, doc, positions)
+}
+
+// The greater of two documents.
+fn later(first: u32, second: u32) -> u32
+    ensures { result ≡ max first second }
+{
+    if first < second { second } else { first }
+}
+
+impl Shard {
+    /// The empty shard of this number, which is below 16. It takes no memory.
+    pub fn new(alloc: Global, number: u32) -> Shard
+        requires { number < 16 }
+        ensures { result ≡ empty_shard number }
+    {
+        Shard {
+            number: number as u8,
+            terms: TextTable::new(alloc),
+            lists: Vec::new(alloc),
+            last: 0,
+        }
+    }
+
+    /// Appends the document to each term of this shard that it has, unless the document isn't split
+    /// or its number isn't above those of the shard. After an `OutOfMemory` nothing is said of the
+    /// shard.
+    pub(crate) fn gather(&mut self, doc: u32, document: &Document) -> Result<(), OutOfMemory>
+        ensures { OnOk result (self.new ≡ gathered_content self.old doc document.now) }
+    {
+        if doc <= self.last {
+            return Ok(());
+        }
+        let Some(words) = document.words() else {
+            return Ok(());
+        };
+        self.gather_words(doc, words)
+    }
+
+    fn gather_words(&mut self, doc: u32, words: &CountedWords) -> Result<(), OutOfMemory>
+        requires { last_in self.old.places < doc }
+        ensures { OnOk result (self.new ≡ gathered self.old doc words.now.words) }
+    {
+        for number in 0..words.terms() {
+            if words.shard(number) == self.number {
+                self.append(words.term(number), doc, words.positions(number))?;
+            }
+        }
+        Ok(())
+    }
+
+    // Appends a document to a term.
+    fn append(&mut self, term: &str, doc: u32, positions: &[u32]) -> Result<(), OutOfMemory>
+        requires rises { last_document (places_of self.old.places term.now) < doc }
+        requires positions { ArePositions positions.now }
+        ensures number { OnOk result (self.new.number ≡ self.old.number) }
+        ensures places { OnOk result
+            (self.new.places ≡ with_place self.old.places term.now doc positions.now) }
+    {
+        append_place(&mut self.terms, &mut self.lists, term, doc, positions)?;
+        self.last = later(self.last, doc);
+        Ok(())
+    }
+
+    /// The documents of a term. It takes no memory.
+    pub fn places(&self, term: &str) -> Option<&Postings>
+        ensures { MatchOption result (finite.get self.now.places term.now ≡ None)
+            (λ list. finite.get self.now.places term.now ≡ Some list.now) }
+    {
+        let Some(number) = self.terms.number_of(term) else {
+            return None;
+        };
+        Some(&self.lists[number as usize])
+    }
+
+    /// A second shard, equal to this one.
+    pub(crate) fn copy(&self, alloc: Global) -> Result<Shard, OutOfMemory>
+        ensures { IfOk result (λ copy. copy ≡ self.now) }
+    {
+        let mut lists = Vec::with_capacity(alloc, self.lists.len())?;
+        for list in &self.lists {
+            lists.push(list.copy()?)?;
+        }
+        Ok(Shard {
+            number: self.number,
+            terms: self.terms.copy()?,
+            lists,
+            last: self.last,
+        })
+    }
+}
