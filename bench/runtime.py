@@ -58,10 +58,10 @@ def measured_program(folder):
     return crate / "out" / CRATE
 
 
-def lines_of(program):
+def lines_of(program, environment):
     """What a run printed: times and nanoseconds by part, and the checksums by name."""
     parts, checksums = {}, set()
-    printed = subprocess.run([program], stdout=subprocess.PIPE, text=True, check=True).stdout
+    printed = subprocess.run([program], stdout=subprocess.PIPE, text=True, check=True, env=environment).stdout
     for kind, name, *numbers in map(str.split, printed.splitlines()):
         if kind == "part":
             parts[name] = tuple(map(int, numbers))
@@ -70,14 +70,14 @@ def lines_of(program):
     return parts, checksums
 
 
-def best_parts(programs, repeats):
+def best_parts(programs, repeats, environment):
     """Each program's times and least nanoseconds by part. They take turns."""
     best = {name: {} for name in programs}
     seen = set()
     for turn in range(repeats):
         names = list(programs)
         for name in names[turn % 2 :] + names[: turn % 2]:
-            parts, checksums = lines_of(programs[name])
+            parts, checksums = lines_of(programs[name], environment)
             seen.add(frozenset(checksums))
             for part, figures in parts.items():
                 best[name][part] = min(figures, best[name].get(part, figures))
@@ -106,13 +106,17 @@ def load():
 def main():
     parser = argparse.ArgumentParser(description=__doc__, formatter_class=argparse.RawDescriptionHelpFormatter)
     parser.add_argument("--repeats", type=int, default=40, help="runs of each program (40)")
+    parser.add_argument("--huge-pages", action="store_true", help="lets both have their memory in pages of 2 MiB")
     options = parser.parse_args()
+    environment = dict(os.environ)
+    if options.huge_pages:
+        environment["GLIBC_TUNABLES"] = "glibc.malloc.hugetlb=1"
 
     with tempfile.TemporaryDirectory() as folder:
         plain = cargo_program(SOURCES / "plain", os.path.join(folder, "target"))
         programs = {"Rattle": measured_program(folder), "plain": plain}
         before = load()
-        best = best_parts(programs, options.repeats)
+        best = best_parts(programs, options.repeats, environment)
         print(f"{options.repeats} runs of each; {before} before them, {load()} after")
         show(best)
 
