@@ -6,3 +6,6 @@ pub mod NumberingLemmas
 pub mod ShardLemmas
 pub mod SplitLemmas
 pub mod TotalsLemmas
+pub mod JoinedLemmas
+pub mod MarkedLemmas
+pub mod StagesLemmas
