@@ -3,6 +3,7 @@ pub mod Totals
 pub mod Shards
 pub mod Items
 pub mod Builds
+pub mod Collected
 pub mod NumberedWords
 pub mod ShardTables
 pub mod KeptDocuments
