@@ -1,11 +1,12 @@
+pub mod CollectedLemmas
 pub mod CountedLemmas
 pub mod GatherLemmas
 pub mod GroupsLemmas
+pub mod JoinedLemmas
 pub mod LongestLemmas
 pub mod NumberingLemmas
 pub mod ShardLemmas
 pub mod SplitLemmas
 pub mod TotalsLemmas
-pub mod JoinedLemmas
 pub mod MarkedLemmas
 pub mod StagesLemmas

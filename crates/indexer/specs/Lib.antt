@@ -4,6 +4,7 @@ pub mod Shards
 pub mod Items
 pub mod Builds
 pub mod Stages
+pub mod Collected
 pub mod NumberedWords
 pub mod ShardTables
 pub mod KeptDocuments

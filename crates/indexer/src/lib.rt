@@ -11,6 +11,7 @@ mod item;
 mod numbering;
 mod shard;
 mod shard_of;
+mod terms;
 mod totals;
 
 pub use building::build;

@@ -5,14 +5,16 @@ ghost use Rattle.std.specs.FinMap as finite;
 ghost use Rattle.std.specs.List.{slice_index_or, slice_set};
 ghost use Rattle.index_definitions.specs.PostingLists.{ArePositions, last_document};
 ghost use Rattle.text_table.specs.TextTables.{number_of};
+ghost use Rattle.indexer.specs.Collected.{AppendsTermsOfShard};
 ghost use Rattle.indexer.specs.ShardTables.{ArePaired, places_from, last_of};
 ghost use Rattle.indexer.specs.Shards.{empty_shard, last_in, places_of};
 ghost use Rattle.indexer.specs.Shards.{with_place, gathered, gathered_content};
 
 use crate::counted_words::CountedWords;
 use crate::document::Document;
+use crate::index::Term;
 use postings::Postings;
-use ss_base::OutOfMemory;
+use ss_base::{OutOfMemory, Text};
 use std::alloc::Global;
 use std::marker::Model;
 use text_table::TextTable;
@@ -179,6 +181,23 @@ impl Shard {
             return None;
         };
         Some(&self.lists[number as usize])
+    }
+
+    /// Appends its terms, each with its documents and a total of 0, in no stated order. After an
+    /// `OutOfMemory` nothing is said of `terms`.
+    pub(crate) fn push_terms(&self, alloc: Global, terms: &mut Vec<Term>) -> Result<(), OutOfMemory>
+        ensures { OnOk result
+            (AppendsTermsOfShard self.now.places terms.old.items terms.new.items) }
+    {
+        terms.reserve(self.lists.len())?;
+        for number in 0..self.terms.len() {
+            terms.push(Term {
+                text: Text::of(alloc, self.terms.text(number))?,
+                total: 0,
+                postings: self.lists[number as usize].copy()?,
+            })?;
+        }
+        Ok(())
     }
 
     /// A second shard, equal to this one.
