@@ -1,6 +1,7 @@
 pub mod CountedLemmas
 pub mod GatherLemmas
 pub mod GroupsLemmas
+pub mod HeldLemmas
 pub mod LongestLemmas
 pub mod NumberingLemmas
 pub mod ShardLemmas

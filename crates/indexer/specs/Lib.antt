@@ -6,3 +6,4 @@ pub mod Builds
 pub mod NumberedWords
 pub mod ShardTables
 pub mod KeptDocuments
+pub mod Held
