@@ -6,4 +6,5 @@ pub mod LongestLemmas
 pub mod NumberingLemmas
 pub mod ShardLemmas
 pub mod SplitLemmas
+pub mod SplitPostingsLemmas
 pub mod TotalsLemmas
