@@ -1,4 +1,4 @@
--- What a shard holds after all documents.
+-- The shard after all documents, and its last document.
 use Rattle.std.proofs.Common.{◌≡◌, ℕ, ◌+◌, ◌<◌, ◌≤◌, List, [], ◌∷◌, ◌++◌, length, max, map, fold}
 use Rattle.std.proofs.Common.{true, false, cond, refl, ap, ◌∙◌, arith}
 use Rattle.std.specs.declared.cmp.Ordering.TheVariants.{Less, Equal, Greater}
@@ -76,7 +76,7 @@ put_within k v m n (e ∷ es) before new =
       | Greater ↦ put_within k v (max m theirs) n es before new
     ]
 
-empty_last : last_in finite.empty ≡ 0
+pub empty_last : last_in finite.empty ≡ 0
 empty_last = last_in-from [] [] (λ i j d before within. absurd (omega arith)) refl
 
 entries_within : (n : ℕ) (es : List (List ℕ × Places))
@@ -92,7 +92,7 @@ entries_within n (e ∷ es) within =
     omega (arith, put_in, most)
 
 -- a document that is no earlier is the last
-with_terms-last : (places : TermPlaces) (document : ℕ) (ws : List Word) (ts : List (List ℕ))
+pub with_terms-last : (places : TermPlaces) (document : ℕ) (ws : List Word) (ts : List (List ℕ))
     → last_in places ≤ document → last_in (with_terms places document ws ts) ≤ document
 with_terms-last places document ws ts before =
     entries_within document (map (with_document places document ws) ts ++ finite.entries places)

@@ -2,6 +2,7 @@ pub mod CountedLemmas
 pub mod GatherLemmas
 pub mod GroupsLemmas
 pub mod HeldLemmas
+pub mod HeldTermsLemmas
 pub mod LongestLemmas
 pub mod NumberingLemmas
 pub mod ShardLemmas
