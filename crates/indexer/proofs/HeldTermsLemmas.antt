@@ -13,6 +13,7 @@ use Rattle.std.proofs.lemmas.List.{length-map}
 use Rattle.std.proofs.lemmas.List.Elements.{All-from_get_or}
 use Rattle.std.proofs.lemmas.List.Folds.{list_any-append, list_any_at, list_any_none}
 use Rattle.std.proofs.lemmas.Map.Views.{any-filter_same}
+use Rattle.std.proofs.lemmas.Nat.{mod_below}
 use Rattle.std.proofs.lemmas.Slice.Eq.{bytes_eq-Decides}
 use Rattle.index_definitions.specs.Postings.{postings_of}
 use Rattle.index_definitions.specs.Index.{by_document}
@@ -134,8 +135,8 @@ is_some-cond false x = refl
 
 module _ (stopped documents : List (List ℕ)) where
   -- one of the documents has this term
-  abbrev pub is_counted : List ℕ → Bool
-  is_counted t = list_any (λ p. bytes_eq t p.term) (split_postings stopped documents)
+  abbrev pub has_posting : List ℕ → Bool
+  has_posting t = list_any (λ p. bytes_eq t p.term) (split_postings stopped documents)
 
   places_in-documents : (t : List ℕ)
       → places_in t 1 (split_all stopped documents)
@@ -148,7 +149,7 @@ module _ (stopped documents : List (List ℕ)) where
   -- a shard has the terms that belong to it, each with all its documents
   pub get-shard_after : (number : ℕ) (t : List ℕ)
       → finite.get (shard_after number (split_all stopped documents)).places t
-      ≡ cond (is_counted t && (shard_of t == number))
+      ≡ cond (has_posting t && (shard_of t == number))
       (Some (by_document (length documents) (postings_of t (split_postings stopped documents))))
       None
   get-shard_after number t =
@@ -163,10 +164,10 @@ module _ (stopped documents : List (List ℕ)) where
 
   pub is_some-shard_after : (number : ℕ) (t : List ℕ)
       → is_some (finite.get (shard_after number (split_all stopped documents)).places t)
-      ≡ (is_counted t && (shard_of t == number))
+      ≡ (has_posting t && (shard_of t == number))
   is_some-shard_after number t =
       ap is_some (get-shard_after number t)
-      ∙ is_some-cond (is_counted t && (shard_of t == number)) _
+      ∙ is_some-cond (has_posting t && (shard_of t == number)) _
 
 has_term-flat : (t : List ℕ) (lists : List (List (List ℕ)))
     → has_term (flat_map (λ l. l) lists) t ≡ list_any (λ l. has_term l t) lists
@@ -182,7 +183,7 @@ module _ (stopped documents : List (List ℕ)) where
       ≡ is_some (finite.get (shard_after number (split_all stopped documents)).places t))
       → HasTermsOf (split_postings stopped documents) (flat_map (λ l. l) lists)
   HasTermsOf-shards lists sixteen each t =
-      let counted = is_counted stopped documents t in
+      let counted = has_posting stopped documents t in
       let own : shard_of t < 16 = mod_below (sum t) 16 (omega arith) in
       let has : (number : ℕ) → number < 16
       → has_term (get_or lists number []) t ≡ (counted && (shard_of t == number)) =
