@@ -2,11 +2,14 @@ pub mod CollectedLemmas
 pub mod CountedLemmas
 pub mod GatherLemmas
 pub mod GroupsLemmas
+pub mod HeldLemmas
+pub mod HeldTermsLemmas
 pub mod JoinedLemmas
 pub mod LongestLemmas
+pub mod MarkedLemmas
 pub mod NumberingLemmas
 pub mod ShardLemmas
 pub mod SplitLemmas
-pub mod TotalsLemmas
-pub mod MarkedLemmas
+pub mod SplitPostingsLemmas
 pub mod StagesLemmas
+pub mod TotalsLemmas

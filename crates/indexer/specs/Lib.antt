@@ -8,3 +8,4 @@ pub mod Collected
 pub mod NumberedWords
 pub mod ShardTables
 pub mod KeptDocuments
+pub mod Held
