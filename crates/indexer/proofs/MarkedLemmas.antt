@@ -272,8 +272,8 @@ not_held : (read : ℕ) (serializer : Option Serializer) (at : Option SetId) →
 not_held read None at readable = refl
 not_held read (Some serializer) None readable = refl
 not_held read (Some serializer) (Some set) readable =
-    ⊎_elim {B = held_in read (Some set) ≡ None} (λ fixed. absurd cc) (λ none. absurd cc)
-    readable
+    let clash : ⊥ = ⊎_elim (λ fixed. absurd cc) (λ none. absurd cc) readable in
+    absurd clash
 
 pub allows-make : (old : Marked) (objects calls : ℕ) → HasMarks old objects calls false →
     objects < 1048576 → calls < 2 ^ 60 → (by : By) → judged old (make by) ≡ None

@@ -1,12 +1,12 @@
 -- What are the terms of a shard before they are counted, and what does a count make of them?
-use Rattle.std.specs.Prelude.{◌≡◌, ℕ, List, ◌++◌, map, Some, is_some}
+use Rattle.std.specs.Prelude.{◌≡◌, ℕ, ◌<◌, List, [], ◌++◌, map, length, Some, is_some}
 use Rattle.std.specs.FinMap as finite
-use Rattle.std.specs.List.{All}
+use Rattle.std.specs.List.{All, flat_map, slice_index_or}
 use Rattle.index_definitions.specs.Index.{TermRecord}
 use Rattle.text_table.specs.TextTables.{AreDistinct}
 use Rattle.class_laws.specs.Counts.{Counts, count_of}
 use Rattle.indexer.specs.Documents.{has_term}
-use Rattle.indexer.specs.Shards.{TermPlaces}
+use Rattle.indexer.specs.Shards.{TermPlaces, ShardParts}
 
 -- the texts of terms
 abbrev pub texts_of : List TermRecord → List (List ℕ)
@@ -37,3 +37,13 @@ with_count counts term = record {
   total = count_of counts term.text;
   postings = term.postings;
 }
+
+-- the terms of the first so many shards, one shard after the other
+pub record CollectsTerms (parts : ℕ → ShardParts) (shards : ℕ) (terms : List TermRecord)
+    : Type 0 where
+  pub lists : List (List TermRecord)
+  pub count : length lists ≡ shards
+  pub terms_are : terms ≡ flat_map (λ list. list) lists
+  pub each :
+      (number : ℕ) → number < shards →
+      HasTermsOfShard (parts number).places (slice_index_or lists number [])
