@@ -2,12 +2,13 @@
 use Rattle.std.proofs.Common.{◌≡◌, ◌≢◌, ℕ, zero, suc, ◌+◌, ◌^◌, ◌<◌, ◌≤◌, ◌⊎◌, Bool, true, false}
 use Rattle.std.proofs.Common.{Option, Some, None, List, [], ◌∷◌, ◌++◌, length, map, Result, Ok, Err}
 use Rattle.std.proofs.Common.{refl, sym, ap, ap₂, ◌∙◌, subst, ⊎_elim, arith, nat_lt, cond, inl, inr}
-use Rattle.std.specs.Prelude.{slice_get, slice_set, ◌==◌, IsSome}
+use Rattle.std.specs.Prelude.{slice_get, slice_set, ◌==◌, IsSome, IfOk, OnOk}
 use Rattle.std.specs.Option.{option_map}
 use Rattle.std.proofs.lemmas.Bool.{cases_Bool}
 use Rattle.std.proofs.lemmas.Bool.Decides.{nat_tests}
 use Rattle.std.proofs.lemmas.List.{length-append}
 use Rattle.std.proofs.lemmas.Option.{slice_get_within, same_Some}
+use Rattle.ss_base.specs.declared.text.OutOfMemory.{OutOfMemory}
 use Rattle.execution_definitions.specs.declared.refusal.Refusal.{Refusal}
 use Rattle.execution_definitions.specs.declared.serializer.By.{By}
 use Rattle.execution_definitions.specs.declared.serializer.By.TheVariants as by
@@ -106,6 +107,16 @@ pub accepts : {T : Type 0} (to_reply : T → Reply Item ItemOp Totals) (old new 
     Accepts item_meaning old new made
 accepts to_reply old new made answer value answered is =
     (subst (Answered item_meaning to_reply old new made) is answered).0
+
+-- what an accepted call leads to holds after Ok
+pub on_accepted : {T : Type 0} (to_reply : T → Reply Item ItemOp Totals) (old new : ItemView)
+    (made : ItemCall) (answer : Result T Fault) (result : Result T OutOfMemory) (P : Type 0) →
+    Answered item_meaning to_reply old new made answer →
+    IfOk result (λ value. answer ≡ Ok value) →
+    (Accepts item_meaning old new made → P) → OnOk result P
+on_accepted to_reply old new made answer (Ok value) P answered is then =
+    then (accepts to_reply old new made answer value answered is)
+on_accepted to_reply old new made answer (Err error) P answered is then = tt
 
 -- ---- values
 

@@ -8,10 +8,15 @@ ghost use Rattle.delegation.specs.declared.call.Fault.TheVariants.{Refused};
 ghost use Rattle.indexer.specs.Builds.{item_meaning, split_index, Stops};
 ghost use Rattle.indexer.specs.Documents.{Content, Word};
 ghost use Rattle.indexer.specs.Shards.{empty_shard, ShardParts, gathered_content};
-ghost use Rattle.indexer.specs.Totals.{no_totals, totals_of};
-ghost use Rattle.indexer.specs.Stages.{whole_at, split_at, words_to, gathered_to, HasItems, HasMarks, IsGathering};
+ghost use Rattle.indexer.specs.Totals.{Totals, no_totals, totals_of};
+ghost use Rattle.indexer.specs.Stages.{whole_at, split_at, words_to, gathered_to, HasItems};
+ghost use Rattle.indexer.specs.Stages.{HasMarks, IsGathering};
+ghost use Rattle.indexer.specs.Collected.{AppendsTermsOfShard, CollectsTerms};
+ghost use Rattle.indexer.specs.declared.item.Item.TheVariants as item;
 
-use crate::{Document, Index, Item, ItemOp, Shard};
+use crate::terms::{fill_totals, sort_terms};
+use crate::{Document, Index, Item, ItemOp, Shard, Term};
+use class_laws::Both;
 use delegation::{Delegation, Fault};
 use doc_words::StopSet;
 use execution_definitions::{By, Refusal};
@@ -102,12 +107,12 @@ fn gather_document<D: Delegation<Item>, R: Threads + Wait + Copy + Send + Sync +
         (words : List Word) →
         HasItems (D.seen d.old).state stopped count 16 content parts (totals_of words) →
         OnOk result (HasItems (D.seen d.new).state stopped count 16 content
-        (λ number. gathered_content (parts number) (place + 1) (content place))
+        (λ number. gathered_content (parts number) (1 + place) (content place))
         (totals_of words)) }
     ensures calls { OnOk result ((D.seen d.new).marks.calls ≡ (D.seen d.old).marks.calls + 16) }
     ensures marks { OnOk result (IsGathering (D.seen d.new).marks count) }
 {
-    let doc = place + 1;
+    let doc = 1 + place;
     for number in 0..SHARDS {
         let shard = ObjectId(1 + count + number);
         accepted(d.delegate(rt, shard, ItemOp::Gather { doc }, Some(ObjectId(doc))))?;
@@ -138,6 +143,41 @@ fn gather_documents<D: Delegation<Item>, R: Threads + Wait + Copy + Send + Sync 
     accepted(d.end(rt))
 }
 
+// Appends the terms of an item that is a shard.
+fn push_item(alloc: Global, item: &Item, terms: &mut Vec<Term>) -> Result<(), OutOfMemory>
+    ensures { (parts : ShardParts) → item.now ≡ item.Shard parts →
+        OnOk result (AppendsTermsOfShard parts.places terms.old.items terms.new.items) }
+{
+    if let Item::Shard(shard) = item {
+        shard.push_terms(alloc, terms)?;
+    }
+    Ok(())
+}
+
+// The terms of all shards, which aren't counted yet.
+fn collect_terms<D: Delegation<Item>, R: Threads + Wait + Copy + Send + Sync + 'static>(
+    rt: &R,
+    alloc: Global,
+    d: &mut D,
+    count: u32,
+) -> Result<Vec<Term>, OutOfMemory>
+    requires few { count ≤ 65536 }
+    requires marks { HasMarks (D.seen d.old).marks (17 + count) (21 + 18 * count) false }
+    ensures terms { (stopped : List (List ℕ)) (content : ℕ → Content) (parts : ℕ → ShardParts)
+        (totals : Totals) → HasItems (D.seen d.old).state stopped count 16 content parts totals →
+        IfOk result (λ terms. CollectsTerms parts 16 terms.items) }
+    ensures state { OnOk result ((D.seen d.new).state ≡ (D.seen d.old).state) }
+    ensures marks { OnOk result (HasMarks (D.seen d.new).marks (17 + count)
+        (37 + 18 * count) false) }
+{
+    let mut terms = Vec::new(alloc);
+    for number in 0..SHARDS {
+        let item = accepted(d.get(rt, ObjectId(1 + count + number)))?;
+        push_item(alloc, item, &mut terms)?;
+    }
+    Ok(terms)
+}
+
 /// The index of at most 65,536 documents of at most 8 MiB each, without the stopped terms. The
 /// runtime is a new one.
 pub fn build<D: Delegation<Item>, R: Threads + Wait + Copy + Send + Sync + 'static>(
@@ -156,6 +196,18 @@ pub fn build<D: Delegation<Item>, R: Threads + Wait + Copy + Send + Sync + 'stat
     ensures stops { IfOk result (λ made. (list : List ℕ) → Stops stop list →
         made ≡ index (map (λ document. document.items) docs.items) list) }
 {
-    let _ = (rt, alloc, d, docs, stop);
-    Err(OutOfMemory)
+    let count = docs.len() as u32;
+    make_items(alloc, d, docs, stop)?;
+    split_documents(rt, d, count)?;
+    gather_documents(rt, d, count)?;
+    let mut terms = collect_terms(rt, alloc, d, count)?;
+    let Both(Both(words, longest), counts) = accepted(d.total())?;
+    fill_totals(&mut terms, counts);
+    sort_terms(&mut terms);
+    Ok(Index {
+        documents: count,
+        words: words.0,
+        longest: longest.0,
+        terms,
+    })
 }
