@@ -1,3 +1,4 @@
+pub mod BuiltLemmas
 pub mod CollectedLemmas
 pub mod CountedLemmas
 pub mod GatherLemmas
