@@ -14,3 +14,4 @@ pub mod SplitLemmas
 pub mod SplitPostingsLemmas
 pub mod StagesLemmas
 pub mod TotalsLemmas
+pub mod WordCountLemmas
