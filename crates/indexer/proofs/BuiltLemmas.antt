@@ -1,22 +1,18 @@
 -- The index from the terms of the sixteen shards.
-use Rattle.std.proofs.Common.{◌≡◌, ◌≢◌, ℕ, zero, suc, ◌+◌, ◌%◌, ◌^◌, ◌<◌, ◌≤◌, List, [], ◌∷◌, ◌++◌}
-use Rattle.std.proofs.Common.{length, get_or, map, take, Bool, true, false, cond, Some, None, add-one}
-use Rattle.std.proofs.Common.{refl, sym, subst, ap, ap₂, ◌∙◌, arith, append-nil, nat_lt}
+use Rattle.std.proofs.Common.{◌≡◌, ℕ, ◌+◌, ◌%◌, ◌^◌, ◌<◌, ◌≤◌, List, [], ◌∷◌, ◌++◌, length, get_or}
+use Rattle.std.proofs.Common.{map, Bool, true, false, cond, Some, None, refl, sym, subst, ap, ◌∙◌}
+use Rattle.std.proofs.Common.{arith, append-nil}
 use Rattle.std.specs.Prelude.{◌==◌, ◌&&◌, is_some}
-use Rattle.std.specs.FinMap as finite
 use Rattle.std.specs.List.{All, flat_map}
 use Rattle.std.specs.List.Sorted.{IsPermutation, IsStrictlySortedBy}
-use Rattle.std.specs.Str.{bytes_eq}
-use Rattle.std.proofs.lemmas.Grind.{common_steps, flat_map-append}
+use Rattle.std.proofs.lemmas.Bool.Decides.{nat_tests}
+use Rattle.std.proofs.lemmas.Grind.{flat_map-append}
 use Rattle.std.proofs.lemmas.List.{length_push, get_or_append_left, get_or_push, get_or-map}
-use Rattle.std.proofs.lemmas.List.{length-map, length-take-le, map-append, take_more, take_all}
-use Rattle.std.proofs.lemmas.List.Elements.{All-nil, All-append, All-map, All-weaker}
-use Rattle.std.proofs.lemmas.List.Elements.{All-head, All-tail}
+use Rattle.std.proofs.lemmas.List.{length-map}
+use Rattle.std.proofs.lemmas.List.Elements.{All-map, All-weaker}
 use Rattle.std.proofs.lemmas.List.Folds.{flat_map-map}
-use Rattle.std.proofs.lemmas.List.Kept.{AllPairs-cons}
 use Rattle.std.proofs.lemmas.List.Sorted.{All-permutation}
 use Rattle.std.proofs.lemmas.Option.{same_Some}
-use Rattle.std.proofs.lemmas.Bool.Decides.{nat_tests}
 use Rattle.index_definitions.specs.Index.{TermRecord, IndexRecord, term_record, by_document}
 use Rattle.index_definitions.specs.Postings.{Posting, postings_of}
 use Rattle.index_definitions.specs.Terms.{HasTermsOf, terms_of}
@@ -25,15 +21,16 @@ use Rattle.class_laws.specs.Counts.{Counts, text_order, count_of}
 use Rattle.indexer.specs.Builds.{split_postings, split_index}
 use Rattle.indexer.specs.Collected.{texts_of, IsTermOfShard, HasTermsOfShard, AppendsTermsOfShard}
 use Rattle.indexer.specs.Collected.{CollectsTerms, with_count}
-use Rattle.indexer.specs.Documents.{Word, Content, split, split_words, has_term}
+use Rattle.indexer.specs.Documents.{split_words, has_term}
 use Rattle.indexer.specs.Held.{split_all, shard_after}
-use Rattle.indexer.specs.Shards.{ShardParts, gathered_content, shard_of}
-use Rattle.indexer.specs.Stages.{split_at, whole_at, words_to, gathered_to}
+use Rattle.indexer.specs.Shards.{ShardParts, shard_of}
+use Rattle.indexer.specs.Stages.{split_at, words_to, gathered_to}
 use Rattle.indexer.specs.Totals.{Totals, totals_of}
 use Rattle.indexer.proofs.CollectedLemmas.{has_term-permutation, texts_of-with_count}
-use Rattle.indexer.proofs.HeldLemmas.{shard_after-push}
-use Rattle.indexer.proofs.HeldTermsLemmas.{has_posting, get-shard_after, HasTermsOf-shards}
-use Rattle.indexer.proofs.HeldTermsLemmas.{is_some-shard_after}
+use Rattle.indexer.proofs.GatheredAllLemmas.{All-flat, apart, texts_of-flat, gathered_shard}
+use Rattle.indexer.proofs.GatheredAllLemmas.{gathered-all, words_to-all}
+use Rattle.indexer.proofs.HeldTermsLemmas.{has_posting, get-shard_after, is_some-shard_after}
+use Rattle.indexer.proofs.HeldTermsLemmas.{HasTermsOf-shards}
 use Rattle.indexer.proofs.JoinedLemmas.{count_in-few}
 use Rattle.indexer.proofs.SplitPostingsLemmas.{all_words, length-postings, longest-postings}
 use Rattle.indexer.proofs.SplitPostingsLemmas.{length-postings_of, term_records-all}
@@ -73,114 +70,6 @@ collects-push parts shards terms longer collects appends =
           (subst (HasTermsOfShard (parts shards).places)
           (sym (get_or_push lists more [] shards collects.count)) appends.terms_are);
     }
-
--- ---- lists of lists
-
-All-flat : {A : Type 0} (P : A → Type 0) (lists : List (List A))
-    → ((number : ℕ) → number < length lists → All P (get_or lists number []))
-    → All P (flat_map (λ list. list) lists)
-All-flat P [] each = All-nil P
-All-flat P (l ∷ ls) each =
-    All-append P l (flat_map (λ list. list) ls) (each 0 (omega arith))
-    (All-flat P ls (λ number within. each (suc number) (omega arith)))
-
-AllPairs-append : (xs ys : List (List ℕ)) → AreDistinct xs → AreDistinct ys
-    → All (λ x. All (λ y. x ≢ y) ys) xs → AreDistinct (xs ++ ys)
-AllPairs-append [] ys first second apart = second
-AllPairs-append (x ∷ xs) ys first second apart =
-    let differ = λ (a b : List ℕ). a ≢ b in
-    AllPairs-cons differ x (xs ++ ys)
-    (All-append (differ x) xs ys
-    (λ k d within. first 0 (suc k) d (omega arith) (omega arith))
-    (All-head (λ a. All (differ a) ys) x xs apart))
-    (AllPairs-append xs ys
-    (λ i j d order within. first (suc i) (suc j) d (omega arith) (omega arith)) second
-    (All-tail (λ a. All (differ a) ys) x xs apart))
-
--- texts of lists of which each has its own shard, from shard k on
-record AreApart (k : ℕ) (lists : List (List (List ℕ))) : Type 0 where
-  distinct : AreDistinct (flat_map (λ list. list) lists)
-  later : All (λ t. k ≤ shard_of t) (flat_map (λ list. list) lists)
-
-apart : (k : ℕ) (lists : List (List (List ℕ)))
-    → ((number : ℕ) → number < length lists
-    → AreDistinct (get_or lists number []) × All (λ t. shard_of t ≡ k + number) (get_or lists number []))
-    → AreApart k lists
-apart k [] each = record {
-  distinct = λ i j d order within. absurd (omega arith);
-  later = All-nil (λ t. k ≤ shard_of t);
-}
-apart k (l ∷ ls) each =
-    let first = each 0 (omega arith) in
-    let rest = apart (k + 1) ls (λ number within.
-    let mine = each (suc number) (omega arith) in
-    (mine.0, All-weaker (λ t. shard_of t ≡ k + suc number) (λ t. shard_of t ≡ k + 1 + number)
-    (λ t is. omega (arith, is)) (get_or ls number []) mine.1)) in
-    let texts = flat_map (λ (list : List (List ℕ)). list) ls in
-    record {
-      distinct = AllPairs-append l texts first.0 rest.distinct
-          (All-weaker (λ t. shard_of t ≡ k + 0) (λ t. All (λ u. t ≢ u) texts)
-          (λ t is. All-weaker (λ u. k + 1 ≤ shard_of u) (λ u. t ≢ u)
-          (λ u above same. absurd (omega (arith, is, above, ap shard_of same))) texts rest.later)
-          l first.1);
-      later = All-append (λ t. k ≤ shard_of t) l texts
-          (All-weaker (λ t. shard_of t ≡ k + 0) (λ t. k ≤ shard_of t)
-          (λ t is. omega (arith, is)) l first.1)
-          (All-weaker (λ t. k + 1 ≤ shard_of t) (λ t. k ≤ shard_of t)
-          (λ t above. omega (arith, above)) texts rest.later);
-    }
-
-texts_of-flat : (lists : List (List TermRecord))
-    → texts_of (flat_map (λ list. list) lists) ≡ flat_map (λ list. list) (map texts_of lists)
-texts_of-flat [] = refl
-texts_of-flat (l ∷ ls) =
-    map-append (λ (r : TermRecord). r.text) l (flat_map (λ list. list) ls)
-    ∙ ap (λ ts. texts_of l ++ ts) (texts_of-flat ls)
-
--- ---- the gathered shards
-
-module _ (stopped documents : List (List ℕ)) where
-  abbrev gathered_shard : ℕ → ShardParts
-  gathered_shard = gathered_to (split_at stopped documents (length documents)) (length documents)
-
-  gathered-upto : (number k : ℕ) → k ≤ length documents
-      → gathered_to (split_at stopped documents (length documents)) k number
-      ≡ shard_after number (take k (split_all stopped documents))
-  gathered-upto number zero within = refl
-  gathered-upto number (suc k) within =
-      let words = split_all stopped documents in
-      let here : k < length documents = omega arith in
-      let long = length-map documents (split_words stopped) in
-      let is_split : nat_lt k (length documents) ≡ true = grind (arith, common_steps) in
-      let mine = split_words stopped (get_or documents k []) in
-      let more : take (suc k) words ≡ take k words ++ mine ∷ [] =
-      ap (λ j. take j words) (sym (add-one k))
-      ∙ take_more words k [] (omega (arith, here, long))
-      ∙ ap (λ w. take k words ++ w ∷ []) (get_or-map (split_words stopped) documents k [] [] here) in
-      let number_is : length (take k words) + 1 ≡ suc k =
-      omega (arith, length-take-le k words (omega (arith, here, long))) in
-      ap (λ b. gathered_content
-      (gathered_to (split_at stopped documents (length documents)) k number) (suc k)
-      (cond b (split mine) (whole_at documents k))) is_split
-      ∙ ap (λ s. gathered_content s (suc k) (split mine)) (gathered-upto number k (omega arith))
-      ∙ sym (ap (shard_after number) more
-      ∙ shard_after-push number (take k words) mine
-      ∙ ap (λ d. gathered_content (shard_after number (take k words)) d (split mine)) number_is)
-
-  -- the shards are those that hold all documents
-  pub gathered-all : (number : ℕ)
-      → gathered_shard number ≡ shard_after number (split_all stopped documents)
-  gathered-all number =
-      gathered-upto number (length documents) (omega arith)
-      ∙ ap (shard_after number) (take_all (length documents) (split_all stopped documents)
-      (omega (arith, length-map documents (split_words stopped))))
-
-  -- the counted words are those of all postings
-  words_to-all : words_to stopped documents (length documents)
-      ≡ all_words stopped documents
-  words_to-all =
-      ap (flat_map (split_words stopped)) (take_all (length documents) documents (omega arith))
-      ∙ sym (flat_map-map (λ w. w) (split_words stopped) documents)
 
 -- ---- the collected terms
 
@@ -294,57 +183,55 @@ module _ (stopped documents : List (List ℕ)) (terms : List TermRecord)
 
 -- ---- the whole
 
--- sorted and counted, these terms make the index of so many documents
+-- an index of so many documents, with the numbers of these totals
+abbrev pub index_with : ℕ → Totals → List TermRecord → IndexRecord
+index_with documents totals terms = record {
+  documents = documents;
+  words = totals.0.0.0;
+  longest = totals.0.1.0;
+  terms = terms;
+}
+
+-- counted by these totals and sorted, the terms make the index of n documents
 abbrev MakeIndex : (stopped documents : List (List ℕ)) (n : ℕ) (terms sorted : List TermRecord)
     → Totals → Type 0
 MakeIndex stopped documents n terms sorted totals =
     IsPermutation (map (with_count totals.1) terms) sorted
     → (AreDistinct (texts_of (map (with_count totals.1) terms))
     → IsStrictlySortedBy text_order (texts_of sorted))
-    → (let made : IndexRecord = record {
-      documents = n;
-      words = totals.0.0.0;
-      longest = totals.0.1.0;
-      terms = sorted;
-    } in made) ≡ split_index stopped documents
+    → index_with n totals sorted ≡ split_index stopped documents
 
-module _ (have_few : HaveFewWords) (stopped documents : List (List ℕ))
-    (count : length documents ≤ 65536) (within : AreWithin documents) where
-  few : length (all_words stopped documents) < 2 ^ 64
-  few =
-      let all = few_words have_few stopped documents count within in
-      omega (arith, all, ap length (flat_map-map (λ w. w) (split_words stopped) documents))
+made : HaveFewWords → (stopped documents : List (List ℕ))
+    → length documents ≤ 65536 → AreWithin documents → (terms sorted : List TermRecord)
+    → CollectsTerms (gathered_shard stopped documents) 16 terms
+    → MakeIndex stopped documents (length documents) terms sorted
+    (totals_of (all_words stopped documents))
+made have_few stopped documents count within terms sorted collects moved rises =
+    let words = all_words stopped documents in
+    let few : length words < 2 ^ 64 =
+    omega (arith, few_words have_few stopped documents count within,
+        ap length (flat_map-map (λ w. w) (split_words stopped) documents)) in
+    let words_are : length words % (2 ^ 64) ≡ length (split_postings stopped documents) =
+    omega (arith, few, length-postings stopped documents) in
+    let longest_is = longest-postings stopped documents in
+    let terms_are = terms-built stopped documents terms collects few sorted moved rises in
+    cc
 
-  built-all : (terms sorted : List TermRecord)
-      → CollectsTerms (gathered_shard stopped documents) 16 terms
-      → MakeIndex stopped documents (length documents) terms sorted
-      (totals_of (all_words stopped documents))
-  built-all terms sorted collects moved rises =
-      let words = all_words stopped documents in
-      let length_is : length words % (2 ^ 64) ≡ length (split_postings stopped documents) =
-      omega (arith, few, length-postings stopped documents) in
-      let longest_is = longest-postings stopped documents in
-      let terms_are = terms-built stopped documents terms collects few sorted moved rises in
-      cc
-
--- the index of n documents is the one that the terms of their sixteen shards make
+-- the index of n documents is what the terms of their sixteen shards make
 pub built : HaveFewWords → (stopped documents : List (List ℕ)) (n : ℕ)
     → length documents ≡ n → n ≤ 65536 → AreWithin documents
     → (terms sorted : List TermRecord)
     → CollectsTerms (gathered_to (split_at stopped documents n) n) 16 terms
     → IsPermutation (map (with_count (totals_of (words_to stopped documents n)).1) terms) sorted
-    → (AreDistinct (texts_of (map (with_count (totals_of (words_to stopped documents n)).1) terms))
+    → (AreDistinct
+    (texts_of (map (with_count (totals_of (words_to stopped documents n)).1) terms))
     → IsStrictlySortedBy text_order (texts_of sorted))
-    → (let made : IndexRecord = record {
-      documents = n;
-      words = (totals_of (words_to stopped documents n)).0.0.0;
-      longest = (totals_of (words_to stopped documents n)).0.1.0;
-      terms = sorted;
-    } in made) ≡ split_index stopped documents
+    → index_with n (totals_of (words_to stopped documents n)) sorted
+    ≡ split_index stopped documents
 built have_few stopped documents n is count within terms sorted =
     subst (λ m. CollectsTerms (gathered_to (split_at stopped documents m) m) 16 terms
     → MakeIndex stopped documents m terms sorted (totals_of (words_to stopped documents m))) is
     (λ collects. subst (λ ws.
     MakeIndex stopped documents (length documents) terms sorted (totals_of ws))
     (sym (words_to-all stopped documents))
-    (built-all have_few stopped documents (omega (arith, is, count)) within terms sorted collects))
+    (made have_few stopped documents (omega (arith, is, count)) within terms sorted collects))

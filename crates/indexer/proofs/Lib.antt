@@ -2,6 +2,7 @@ pub mod BuiltLemmas
 pub mod CollectedLemmas
 pub mod CountedLemmas
 pub mod GatherLemmas
+pub mod GatheredAllLemmas
 pub mod GroupsLemmas
 pub mod HeldLemmas
 pub mod HeldTermsLemmas
