@@ -1,7 +1,9 @@
 pub mod BuildingLemmas
+pub mod BuiltLemmas
 pub mod CollectedLemmas
 pub mod CountedLemmas
 pub mod GatherLemmas
+pub mod GatheredAllLemmas
 pub mod GroupsLemmas
 pub mod HeldLemmas
 pub mod HeldTermsLemmas
@@ -14,3 +16,4 @@ pub mod SplitLemmas
 pub mod SplitPostingsLemmas
 pub mod StagesLemmas
 pub mod TotalsLemmas
+pub mod WordCountLemmas
