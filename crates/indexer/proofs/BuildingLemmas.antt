@@ -301,3 +301,32 @@ module _ (stopped : List (List ℕ)) (count place : ℕ) (content : ℕ → Cont
       (totals_of words)
       (λ n within. let less : nat_lt n number ≡ true = grind arith in rw less refl)
       has
+
+-- ---- all documents are gathered
+
+gathered_to-more : (content : ℕ → Content) (count number : ℕ) →
+    gathered_to content (count + 1) number
+    ≡ gathered_content (gathered_to content count number) (1 + count) (content count)
+gathered_to-more content count number =
+    let next : count + 1 ≡ suc count = omega arith in
+    let same : suc count ≡ 1 + count = omega arith in
+    ap (λ n. gathered_to content n number) next
+    ∙ ap (λ n. gathered_content (gathered_to content count number) n (content count)) same
+
+-- one document more
+pub gathered_one : (state : ItemState) (stopped : List (List ℕ)) (documents : ℕ)
+    (content : ℕ → Content) (totals : Totals) (count : ℕ) →
+    HasItems state stopped documents 16 content
+    (λ n. gathered_content (gathered_to content count n) (1 + count) (content count)) totals →
+    HasItems state stopped documents 16 content (gathered_to content (count + 1)) totals
+gathered_one state stopped documents content totals count has =
+    items-parts state stopped documents 16 content _ (gathered_to content (count + 1)) totals
+    (λ number within. sym (gathered_to-more content count number)) has
+
+pub gathered_all : (old new : ItemState) (stopped : List (List ℕ)) (documents : ℕ)
+    (content : ℕ → Content) (totals : Totals) (count : ℕ) → count ≡ documents → new ≡ old →
+    HasItems old stopped documents 16 content (gathered_to content count) totals →
+    HasItems new stopped documents 16 content (gathered_to content documents) totals
+gathered_all old new stopped documents content totals count all same has =
+    rw same (subst (λ n. HasItems old stopped documents 16 content (gathered_to content n) totals)
+    all has)

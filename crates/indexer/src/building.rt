@@ -12,7 +12,7 @@ ghost use Rattle.indexer.specs.Totals.{Totals, no_totals, totals_of};
 ghost use Rattle.indexer.specs.Stages.{whole_at, split_at, words_to, gathered_to, HasItems};
 ghost use Rattle.indexer.specs.Stages.{HasMarks, IsGathering};
 ghost use Rattle.indexer.specs.Collected.{AppendsTermsOfShard, CollectsTerms};
-ghost use Rattle.indexer.specs.declared.item.Item.TheVariants as item;
+ghost use Rattle.indexer.specs.declared.item.Item.TheVariants as kind;
 
 use crate::terms::{fill_totals, sort_terms};
 use crate::{Document, Index, Item, ItemOp, Shard, Term};
@@ -145,7 +145,7 @@ fn gather_documents<D: Delegation<Item>, R: Threads + Wait + Copy + Send + Sync 
 
 // Appends the terms of an item that is a shard.
 fn push_item(alloc: Global, item: &Item, terms: &mut Vec<Term>) -> Result<(), OutOfMemory>
-    ensures { (parts : ShardParts) → item.now ≡ item.Shard parts →
+    ensures { (parts : ShardParts) → item.now ≡ kind.Shard parts →
         OnOk result (AppendsTermsOfShard parts.places terms.old.items terms.new.items) }
 {
     if let Item::Shard(shard) = item {
