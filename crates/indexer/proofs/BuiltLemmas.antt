@@ -39,6 +39,7 @@ use Rattle.indexer.proofs.WordCountLemmas.{HaveFewWords, AreWithin, few_words}
 
 -- ---- shard after shard
 
+-- the terms of no shard
 pub collects-none : (parts : ℕ → ShardParts) → CollectsTerms parts 0 []
 collects-none parts = record {
   lists = [];
@@ -47,6 +48,7 @@ collects-none parts = record {
   each = λ number within. absurd (omega arith);
 }
 
+-- the terms of one shard more
 pub collects-push : (parts : ℕ → ShardParts) (shards : ℕ) (terms longer : List TermRecord)
     → CollectsTerms parts shards terms → AppendsTermsOfShard (parts shards).places terms longer
     → CollectsTerms parts (shards + 1) longer
@@ -93,6 +95,7 @@ module _ (stopped documents : List (List ℕ)) (terms : List TermRecord)
   abbrev lists_of_texts : List (List (List ℕ))
   lists_of_texts = map texts_of collects.lists
 
+  -- a list has the terms of its shard
   own_terms : (number : ℕ) → number < 16
       → HasTermsOfShard (held number).places (get_or collects.lists number [])
   own_terms number within =
@@ -124,15 +127,18 @@ module _ (stopped documents : List (List ℕ)) (terms : List TermRecord)
   sixteen : length lists_of_texts ≡ 16
   sixteen = length-map collects.lists texts_of ∙ collects.count
 
+  -- no two lists share a term, since each shard has its own
   texts-distinct : AreDistinct (texts_of terms)
   texts-distinct =
       subst AreDistinct (sym texts_are)
       (apart 0 lists_of_texts (λ number inside.
       let within : number < 16 = omega (arith, inside, sixteen) in
-      let same = sym (own_texts number within) in
-      (subst AreDistinct same (own_terms number within).distinct,
-      subst (All (λ t. shard_of t ≡ 0 + number)) same (own_shard number within)))).distinct
+      let same = sym (own_texts number within) in (
+        subst AreDistinct same (own_terms number within).distinct,
+        subst (All (λ t. shard_of t ≡ 0 + number)) same (own_shard number within),
+      ))).distinct
 
+  -- and each term of a posting belongs to one of the shards
   texts-members : HasTermsOf postings (texts_of terms)
   texts-members t =
       ap (λ ts. has_term ts t) texts_are
@@ -144,6 +150,7 @@ module _ (stopped documents : List (List ℕ)) (terms : List TermRecord)
     abbrev counts : Counts
     counts = (totals_of (all_words stopped documents)).1
 
+    -- with its count a term is what the postings say of it
     term-counted : (number : ℕ) (r : TermRecord) → IsTermOfShard (held number).places r
         → with_count counts r ≡ term_record (length documents) postings r.text
     term-counted number r is =
@@ -209,8 +216,11 @@ made : HaveFewWords → (stopped documents : List (List ℕ))
 made have_few stopped documents count within terms sorted collects moved rises =
     let words = all_words stopped documents in
     let few : length words < 2 ^ 64 =
-    omega (arith, few_words have_few stopped documents count within,
-        ap length (flat_map-map (λ w. w) (split_words stopped) documents)) in
+    omega (
+      arith,
+      few_words have_few stopped documents count within,
+      ap length (flat_map-map (λ w. w) (split_words stopped) documents),
+    ) in
     let words_are : length words % (2 ^ 64) ≡ length (split_postings stopped documents) =
     omega (arith, few, length-postings stopped documents) in
     let longest_is = longest-postings stopped documents in

@@ -21,6 +21,7 @@ use Rattle.indexer.proofs.SplitPostingsLemmas.{all_words}
 
 -- ---- lists of lists
 
+-- what holds in each list holds in all
 pub All-flat : {A : Type 0} (P : A → Type 0) (lists : List (List A))
     → ((number : ℕ) → number < length lists → All P (get_or lists number []))
     → All P (flat_map (λ list. list) lists)
@@ -29,6 +30,7 @@ All-flat P (l ∷ ls) each =
     All-append P l (flat_map (λ list. list) ls) (each 0 (omega arith))
     (All-flat P ls (λ number within. each (suc number) (omega arith)))
 
+-- of two lists that share no text
 AllPairs-append : (xs ys : List (List ℕ)) → AreDistinct xs → AreDistinct ys
     → All (λ x. All (λ y. x ≢ y) ys) xs → AreDistinct (xs ++ ys)
 AllPairs-append [] ys first second apart = second
@@ -59,9 +61,11 @@ apart k [] each = record {
 apart k (l ∷ ls) each =
     let first = each 0 (omega arith) in
     let rest = apart (k + 1) ls (λ number within.
-    let mine = each (suc number) (omega arith) in
-    (mine.0, All-weaker (λ t. shard_of t ≡ k + suc number) (λ t. shard_of t ≡ k + 1 + number)
-    (λ t is. omega (arith, is)) (get_or ls number []) mine.1)) in
+    let mine = each (suc number) (omega arith) in (
+      mine.0,
+      All-weaker (λ t. shard_of t ≡ k + suc number) (λ t. shard_of t ≡ k + 1 + number)
+          (λ t is. omega (arith, is)) (get_or ls number []) mine.1,
+    )) in
     let texts = flat_map (λ (list : List (List ℕ)). list) ls in
     record {
       distinct = AllPairs-append l texts first.0 rest.distinct
@@ -76,6 +80,7 @@ apart k (l ∷ ls) each =
           (λ t above. omega (arith, above)) texts rest.later);
     }
 
+-- the texts of all lists are all texts of the lists
 pub texts_of-flat : (lists : List (List TermRecord))
     → texts_of (flat_map (λ list. list) lists) ≡ flat_map (λ list. list) (map texts_of lists)
 texts_of-flat [] = refl
@@ -90,6 +95,7 @@ module _ (stopped documents : List (List ℕ)) where
   abbrev pub gathered_shard : ℕ → ShardParts
   gathered_shard = gathered_to (split_at stopped documents (length documents)) (length documents)
 
+  -- after the first k documents
   gathered-upto : (number k : ℕ) → k ≤ length documents
       → gathered_to (split_at stopped documents (length documents)) k number
       ≡ shard_after number (take k (split_all stopped documents))

@@ -9,7 +9,7 @@ use Rattle.std.proofs.lemmas.List.Sums.{length-filter, count_by-le-length, sum_b
 use Rattle.index_definitions.specs.Words.{words_in}
 use Rattle.indexer.specs.Documents.{Word, has_term, split_words}
 
--- a byte that isn't UTF-8 becomes three bytes, each of which may be a word
+-- no more words than bytes in the text of a document, which is at most three times as long as it
 abbrev pub HaveFewWords : Type 0
 HaveFewWords = (document : List ℕ) → length (words_in document) ≤ 3 * length document
 
@@ -32,8 +32,12 @@ few_split : HaveFewWords → (stopped : List (List ℕ)) (document : List ℕ)
     → length (split_words stopped document) ≤ 3 * length document
 few_split few stopped document =
     let counted = λ (word : Word). not (has_term stopped word.1) in
-    omega (arith, length-filter counted (words_in document),
-        count_by-le-length counted (words_in document), few document)
+    omega (
+      arith,
+      length-filter counted (words_in document),
+      count_by-le-length counted (words_in document),
+      few document,
+    )
 
 pub few_words : HaveFewWords → (stopped documents : List (List ℕ))
     → length documents ≤ 65536 → AreWithin documents
