@@ -2,3 +2,4 @@ pub mod FoldLemmas
 pub mod LossyLemmas
 pub mod NumberedLemmas
 pub mod StopSetLemmas
+pub mod WordCountLemmas
