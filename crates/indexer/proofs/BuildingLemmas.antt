@@ -2,7 +2,9 @@
 use Rattle.std.proofs.Common.{◌≡◌, ◌≢◌, ℕ, suc, ◌+◌, ◌^◌, ◌<◌, ◌≤◌, List, [], ◌∷◌, ◌++◌, map, length}
 use Rattle.std.proofs.Common.{Some, None, take, get_or, cond, nat_lt, true, false, refl, sym, ap, ap₂}
 use Rattle.std.proofs.Common.{◌∙◌, subst, ⊎_elim, inr, append-nil, flat_map, arith, Vec, Global, Result, Ok, OnOk}
+use Rattle.std.specs.Prelude.{slice_get}
 use Rattle.std.proofs.Math.Seq.{get_or-append_seam}
+use Rattle.std.proofs.lemmas.Option.{same_Some}
 use Rattle.std.proofs.lemmas.Bool.{cases_Bool}
 use Rattle.std.proofs.lemmas.Grind.{flat_map-append}
 use Rattle.std.proofs.lemmas.List.{take_more, length-append, length-map, map-append}
@@ -12,9 +14,12 @@ use Rattle.execution_definitions.specs.Shapes.{make, delegate}
 use Rattle.execution_definitions.specs.Refusals.{object_id}
 use Rattle.ss_base.specs.declared.ids.ObjectId.{ObjectId}
 use Rattle.partition_check.specs.Judged.{judged}
+use Rattle.partition_check.specs.Marked.{Marked}
+use Rattle.partition_check.specs.MarkedAfter.{with_call_counted}
 use Rattle.delegation.specs.declared.call.Call.TheVariants as call
 use Rattle.delegation.specs.Meanings.{shape_of}
 use Rattle.delegation.specs.Answers.{Accepts}
+use Rattle.indexer.specs.declared.item.Item.{Item}
 use Rattle.indexer.specs.declared.item.Item.TheVariants.{Doc, Shard, Stop}
 use Rattle.indexer.specs.declared.item.ItemOp.{ItemOp}
 use Rattle.indexer.specs.declared.item.ItemOp.TheVariants.{Split, Gather}
@@ -330,3 +335,24 @@ pub gathered_all : (old new : ItemState) (stopped : List (List ℕ)) (documents 
 gathered_all old new stopped documents content totals count all same has =
     rw same (subst (λ n. HasItems old stopped documents 16 content (gathered_to content n) totals)
     all has)
+
+-- ---- the shards are looked at
+
+-- a call that no mark shows is counted
+pub counted-marks : (old new : Marked) (objects calls : ℕ) → HasMarks old objects calls false →
+    new ≡ with_call_counted old → HasMarks new objects (calls + 1) false
+counted-marks old new objects calls has is = rw is (record {
+  count = has.count;
+  writable = has.writable;
+  calls_are = ap (λ n. n + 1) has.calls_are;
+  open_is = has.open_is;
+})
+
+-- the item looked at is the shard
+pub is_shard : (old start : ItemState) (stopped : List (List ℕ)) (count number : ℕ)
+    (content : ℕ → Content) (parts : ℕ → ShardParts) (totals : Totals) (item : Item) →
+    old ≡ start → number < 16 → HasItems start stopped count 16 content parts totals →
+    slice_get old.values (1 + count + number) ≡ Some item → item ≡ Shard (parts number)
+is_shard old start stopped count number content parts totals item same within has is =
+    same_Some _ _ (sym is ∙ ap (λ state. slice_get state.values (1 + count + number)) same
+    ∙ has.shard number within)

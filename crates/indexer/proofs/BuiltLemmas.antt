@@ -35,6 +35,7 @@ use Rattle.indexer.proofs.JoinedLemmas.{count_in-few}
 use Rattle.indexer.proofs.SplitPostingsLemmas.{all_words, length-postings, longest-postings}
 use Rattle.indexer.proofs.SplitPostingsLemmas.{length-postings_of, term_records-all}
 use Rattle.indexer.proofs.StagesLemmas.{below}
+use Rattle.doc_words.proofs.WordCountLemmas.{few_words_in}
 use Rattle.indexer.proofs.WordCountLemmas.{HaveFewWords, AreWithin, few_words}
 
 -- ---- shard after shard
@@ -245,3 +246,23 @@ built have_few stopped documents n is count within terms sorted =
     MakeIndex stopped documents (length documents) terms sorted (totals_of ws))
     (sym (words_to-all stopped documents))
     (made have_few stopped documents (omega (arith, is, count)) within terms sorted collects))
+
+-- the same where the totals and the terms are told one after the other
+pub built_from : (stopped documents : List (List ℕ)) (n : ℕ)
+    → length documents ≡ n → n ≤ 65536 → AreWithin documents
+    → (terms counted sorted : List TermRecord) (totals : Totals)
+    → CollectsTerms (gathered_to (split_at stopped documents n) n) 16 terms
+    → totals ≡ totals_of (words_to stopped documents n)
+    → counted ≡ map (with_count totals.1) terms → IsPermutation counted sorted
+    → (AreDistinct (texts_of counted) → IsStrictlySortedBy text_order (texts_of sorted))
+    → index_with n totals sorted ≡ split_index stopped documents
+built_from stopped documents n is few within terms counted sorted totals collects totals_are
+    counted_are moved rises =
+    let counts = totals_of (words_to stopped documents n) in
+    let same : counted ≡ map (with_count counts.1) terms =
+    counted_are ∙ ap (λ t. map (with_count t.1) terms) totals_are in
+    ap (λ t. index_with n t sorted) totals_are
+    ∙ built few_words_in stopped documents n is few within terms sorted collects
+    (subst (λ ts. IsPermutation ts sorted) same moved)
+    (subst (λ ts. AreDistinct (texts_of ts) → IsStrictlySortedBy text_order (texts_of sorted))
+    same rises)

@@ -27,14 +27,7 @@ gather_document-requires-clause-calls g c =
     (omega (arith, c.requires.few, c.loop-place.invariant.within))
 
 pub gather_document-requires-clause-marks : goal.gather_document-requires-clause-marks
-gather_document-requires-clause-marks g c =
-    let marks = c.loop-place.invariant.marks in record {
-      count = marks.count;
-      writable = marks.writable;
-      open_is = marks.open_is;
-      writes = marks.writes;
-      reads = marks.reads;
-    }
+gather_document-requires-clause-marks g c = λ κs lives. c.loop-place.invariant.marks
 
 pub loop-place-preserved : goal.loop-place-preserved
 loop-place-preserved g c =
