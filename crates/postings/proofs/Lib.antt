@@ -1,1 +1,2 @@
 pub mod PostingListsLemmas
+pub mod NumbersLemmas

@@ -1,57 +1,65 @@
-// The postings of one term, as plain lists.
-ghost use Rattle.std.specs.Prelude.{◌≡◌, ◌<◌, [], ◌∷◌, ◌++◌, length, IfOk, OnOk, OnErr};
+// The postings of one term, all in one list of numbers.
+ghost use Rattle.std.specs.Prelude.{◌≡◌, ◌<◌, ◌≤◌, ◌+◌, [], ◌∷◌, ◌++◌, length};
+ghost use Rattle.std.specs.Prelude.{vec_len, vec_capacity, IfOk, OnOk, OnErr, IfNone, IfSome};
 ghost use Rattle.std.specs.Iterator.{YieldsFirst, item_count};
 ghost use Rattle.index_definitions.specs.PostingLists.{ListsPostings, ArePositions};
 ghost use Rattle.index_definitions.specs.PostingLists.{last_document, pairs_of};
+ghost use Rattle.postings.specs.Numbers.{lists_of, HoldPostings};
 
 use ss_base::OutOfMemory;
 use std::alloc::Global;
 use std::marker::Model;
 
-// One document's positions, of which there is at least one.
-#[derive(Drop, Debug)]
-struct Place {
-    document: u32,
-    positions: Vec<u32>,
-}
-
-impl Model for Place {
-    ghost use Rattle.std.specs.Prelude.{ℕ, List, ◌<◌, length};
-
-    ghost Value = { ℕ × List ℕ };
-
-    ghost view = { λ place. (place.document, place.positions.items) };
-
-    ghost invariant = { λ place. 0 < length place.positions.items };
-}
-
-// Appends a place. Most terms stand in few documents, so the first takes room for itself alone.
-fn push_place(places: &mut Vec<Place>, place: Place) -> Result<(), OutOfMemory>
-    ensures ok { OnOk result (places.new.items ≡ places.old.items ++ place ∷ []) }
-    ensures err { OnErr result (places.new.items ≡ places.old.items) }
-{
-    if places.is_empty() {
-        places.reserve_exact(1)?;
-    }
-    places.push(place)?;
-    Ok(())
-}
-
 /// The documents that hold a term, rising, each with its positions, rising. Both count from 1.
 #[derive(Drop, Debug)]
 pub struct Postings {
-    places: Vec<Place>,
+    // document by document its number, how many positions it has, and those positions
+    numbers: Vec<u32>,
+    documents: u32,
 }
 
 impl Model for Postings {
-    ghost use Rattle.std.specs.Prelude.{ℕ, List};
-    ghost use Rattle.index_definitions.specs.PostingLists.{ListsPostings};
+    ghost use Rattle.std.specs.Prelude.{◌≡◌, ℕ, List, length};
+    ghost use Rattle.postings.specs.Numbers.{lists_of, HoldPostings};
 
     ghost Value = { List (ℕ × List ℕ) };
 
-    ghost view = { λ postings. postings.places.items };
+    ghost view = { λ postings. lists_of postings.numbers.items };
 
-    ghost invariant = { λ postings. ListsPostings postings.places.items };
+    ghost invariant = { λ postings.
+        HoldPostings postings.numbers.items
+        × (postings.documents ≡ length (lists_of postings.numbers.items)) };
+}
+
+// Makes room at the end. Most terms stand in one document, so the first has no room to spare.
+fn make_room(numbers: &mut Vec<u32>, count: usize) -> Result<(), OutOfMemory>
+    ensures items { numbers.new.items ≡ numbers.old.items }
+    ensures room { OnOk result (vec_len numbers.new + count ≤ vec_capacity numbers.new) }
+{
+    if numbers.is_empty() {
+        numbers.reserve_exact(count)?;
+    } else {
+        numbers.reserve(count)?;
+    }
+    Ok(())
+}
+
+// Appends a document, or nothing.
+fn push_document(
+    numbers: &mut Vec<u32>,
+    doc: u32,
+    count: u32,
+    positions: &[u32],
+) -> Result<(), OutOfMemory>
+    ensures ok { OnOk result
+        (numbers.new.items ≡ numbers.old.items ++ doc ∷ count ∷ positions.now) }
+    ensures err { OnErr result (numbers.new.items ≡ numbers.old.items) }
+{
+    make_room(numbers, positions.len() + 2)?;
+    numbers.push(doc)?;
+    numbers.push(count)?;
+    numbers.extend_from_slice(positions)?;
+    Ok(())
 }
 
 impl Postings {
@@ -60,7 +68,8 @@ impl Postings {
         ensures { result ≡ [] }
     {
         Postings {
-            places: Vec::new(alloc),
+            numbers: Vec::new(alloc),
+            documents: 0,
         }
     }
 
@@ -71,26 +80,19 @@ impl Postings {
         ensures ok { OnOk result (self.new ≡ self.old ++ (doc, positions.now) ∷ []) }
         ensures err { OnErr result (self.new ≡ self.old) }
     {
-        let place = Place {
-            document: doc,
-            positions: positions.to_vec(*self.places.allocator())?,
-        };
-        push_place(&mut self.places, place)?;
+        push_document(&mut self.numbers, doc, positions.len() as u32, positions)?;
+        self.documents += 1;
         Ok(())
     }
 
-    /// A second list, equal to this one.
+    /// A second list, equal to this one, with no room to spare.
     pub fn copy(&self) -> Result<Postings, OutOfMemory>
         ensures { IfOk result (λ copy. copy ≡ self.now) }
     {
-        let mut places = Vec::with_capacity(*self.places.allocator(), self.places.len())?;
-        for place in &self.places {
-            places.push(Place {
-                document: place.document,
-                positions: place.positions.clone()?,
-            })?;
-        }
-        Ok(Postings { places })
+        Ok(Postings {
+            numbers: Vec::from_slice(*self.numbers.allocator(), &self.numbers)?,
+            documents: self.documents,
+        })
     }
 
     /// All pairs of document and position, in order. It takes no memory.
@@ -101,7 +103,7 @@ impl Postings {
         PostingsIter {
             document: 0,
             positions: &[],
-            places: &self.places,
+            rest: &self.numbers,
         }
     }
 
@@ -109,8 +111,24 @@ impl Postings {
     pub fn documents(&self) -> u64
         ensures { result ≡ length self.now }
     {
-        self.places.len() as u64
+        u64::from(self.documents)
     }
+}
+
+// The first document, its positions, and the numbers behind them.
+fn split_document(numbers: &[u32]) -> Option<(u32, &[u32], &[u32])>
+    requires { HoldPostings numbers.now }
+    ensures none { IfNone result (numbers.now ≡ []) }
+    ensures first { IfSome result (λ parts.
+        lists_of numbers.now ≡ (parts.0, parts.1.now) ∷ lists_of parts.2.now) }
+    ensures some { IfSome result (λ parts. 0 < length parts.1.now) }
+    ensures rest { IfSome result (λ parts. HoldPostings parts.2.now) }
+{
+    let [document, count, numbers @ ..] = numbers else {
+        return None;
+    };
+    let (positions, rest) = numbers.split_at(*count as usize);
+    Some((*document, positions, rest))
 }
 
 /// The pairs of document and position that are left. Contracts see their list.
@@ -119,17 +137,20 @@ pub struct PostingsIter<'a> {
     // the document whose positions are being given, those left of it, and the documents after it
     document: u32,
     positions: &'a [u32],
-    places: &'a [Place],
+    rest: &'a [u32],
 }
 
 impl<'a> Model for PostingsIter<'a> {
     ghost use Rattle.std.specs.Prelude.{ℕ, List, ◌++◌};
     ghost use Rattle.index_definitions.specs.PostingLists.{pairs_in, pairs_of};
+    ghost use Rattle.postings.specs.Numbers.{lists_of, HoldPostings};
 
     ghost Value = { List (ℕ × ℕ) };
 
     ghost view = { λ iter.
-        pairs_in (iter.document, iter.positions.now) ++ pairs_of iter.places.now };
+        pairs_in (iter.document, iter.positions.now) ++ pairs_of (lists_of iter.rest.now) };
+
+    ghost invariant = { λ iter. HoldPostings iter.rest.now };
 }
 
 impl<'a> Iterator for PostingsIter<'a> {
@@ -141,10 +162,7 @@ impl<'a> Iterator for PostingsIter<'a> {
 
     fn next(&mut self) -> Option<(u32, u32)> {
         if self.positions.is_empty() {
-            let (place, others) = self.places.split_first()?;
-            self.document = place.document;
-            self.positions = &place.positions;
-            self.places = others;
+            (self.document, self.positions, self.rest) = split_document(self.rest)?;
         }
         let (position, others) = self.positions.split_first()?;
         self.positions = others;
