@@ -35,8 +35,7 @@ use Rattle.indexer.proofs.JoinedLemmas.{count_in-few}
 use Rattle.indexer.proofs.SplitPostingsLemmas.{all_words, length-postings, longest-postings}
 use Rattle.indexer.proofs.SplitPostingsLemmas.{length-postings_of, term_records-all}
 use Rattle.indexer.proofs.StagesLemmas.{below}
-use Rattle.doc_words.proofs.WordCountLemmas.{few_words_in}
-use Rattle.indexer.proofs.WordCountLemmas.{HaveFewWords, AreWithin, few_words}
+use Rattle.indexer.proofs.WordCountLemmas.{AreWithin, few_words}
 
 -- ---- shard after shard
 
@@ -209,17 +208,17 @@ MakeIndex stopped documents n terms sorted totals =
     → IsStrictlySortedBy text_order (texts_of sorted))
     → index_with n totals sorted ≡ split_index stopped documents
 
-made : HaveFewWords → (stopped documents : List (List ℕ))
+made : (stopped documents : List (List ℕ))
     → length documents ≤ 65536 → AreWithin documents → (terms sorted : List TermRecord)
     → CollectsTerms (gathered_shard stopped documents) 16 terms
     → MakeIndex stopped documents (length documents) terms sorted
     (totals_of (all_words stopped documents))
-made have_few stopped documents count within terms sorted collects moved rises =
+made stopped documents count within terms sorted collects moved rises =
     let words = all_words stopped documents in
     let few : length words < 2 ^ 64 =
     omega (
       arith,
-      few_words have_few stopped documents count within,
+      few_words stopped documents count within,
       ap length (flat_map-map (λ w. w) (split_words stopped) documents),
     ) in
     let words_are : length words % (2 ^ 64) ≡ length (split_postings stopped documents) =
@@ -229,7 +228,7 @@ made have_few stopped documents count within terms sorted collects moved rises =
     cc
 
 -- the index of n documents is what the terms of their sixteen shards make
-pub built : HaveFewWords → (stopped documents : List (List ℕ)) (n : ℕ)
+pub built : (stopped documents : List (List ℕ)) (n : ℕ)
     → length documents ≡ n → n ≤ 65536 → AreWithin documents
     → (terms sorted : List TermRecord)
     → CollectsTerms (gathered_to (split_at stopped documents n) n) 16 terms
@@ -239,13 +238,13 @@ pub built : HaveFewWords → (stopped documents : List (List ℕ)) (n : ℕ)
     → IsStrictlySortedBy text_order (texts_of sorted))
     → index_with n (totals_of (words_to stopped documents n)) sorted
     ≡ split_index stopped documents
-built have_few stopped documents n is count within terms sorted =
+built stopped documents n is count within terms sorted =
     subst (λ m. CollectsTerms (gathered_to (split_at stopped documents m) m) 16 terms
     → MakeIndex stopped documents m terms sorted (totals_of (words_to stopped documents m))) is
     (λ collects. subst (λ ws.
     MakeIndex stopped documents (length documents) terms sorted (totals_of ws))
     (sym (words_to-all stopped documents))
-    (made have_few stopped documents (omega (arith, is, count)) within terms sorted collects))
+    (made stopped documents (omega (arith, is, count)) within terms sorted collects))
 
 -- the same where the totals and the terms are told one after the other
 pub built_from : (stopped documents : List (List ℕ)) (n : ℕ)
@@ -262,7 +261,7 @@ built_from stopped documents n is few within terms counted sorted totals collect
     let same : counted ≡ map (with_count counts.1) terms =
     counted_are ∙ ap (λ t. map (with_count t.1) terms) totals_are in
     ap (λ t. index_with n t sorted) totals_are
-    ∙ built few_words_in stopped documents n is few within terms sorted collects
+    ∙ built stopped documents n is few within terms sorted collects
     (subst (λ ts. IsPermutation ts sorted) same moved)
     (subst (λ ts. AreDistinct (texts_of ts) → IsStrictlySortedBy text_order (texts_of sorted))
     same rises)

@@ -7,11 +7,8 @@ use Rattle.std.proofs.lemmas.List.Concat.{length-flat_map}
 use Rattle.std.proofs.lemmas.List.Elements.{All-weaker, All-map, All-from_recursion}
 use Rattle.std.proofs.lemmas.List.Sums.{length-filter, count_by-le-length, sum_by-le}
 use Rattle.index_definitions.specs.Words.{words_in}
+use Rattle.doc_words.proofs.WordCountLemmas.{few_words_in}
 use Rattle.indexer.specs.Documents.{Word, has_term, split_words}
-
--- no more words than bytes in the text of a document, which is at most three times as long as it
-abbrev pub HaveFewWords : Type 0
-HaveFewWords = (document : List ℕ) → length (words_in document) ≤ 3 * length document
 
 -- at most 8 MiB each
 abbrev pub AreWithin : List (List ℕ) → Type 0
@@ -28,23 +25,23 @@ AreWithin-vectors docs within =
     (λ document small. omega (arith, small, document.ok.0)) docs
     (All-from_recursion (λ document. vec_len document ≤ 8388608) docs within))
 
-few_split : HaveFewWords → (stopped : List (List ℕ)) (document : List ℕ)
+few_split : (stopped : List (List ℕ)) (document : List ℕ)
     → length (split_words stopped document) ≤ 3 * length document
-few_split few stopped document =
+few_split stopped document =
     let counted = λ (word : Word). not (has_term stopped word.1) in
     omega (
       arith,
       length-filter counted (words_in document),
       count_by-le-length counted (words_in document),
-      few document,
+      few_words_in document,
     )
 
-pub few_words : HaveFewWords → (stopped documents : List (List ℕ))
+pub few_words : (stopped documents : List (List ℕ))
     → length documents ≤ 65536 → AreWithin documents
     → length (flat_map (split_words stopped) documents) < 2 ^ 64
-few_words few stopped documents count within =
+few_words stopped documents count within =
     let each = All-weaker (λ d. length d ≤ 8388608)
     (λ d. length (split_words stopped d) ≤ 25165824)
-    (λ d small. omega (arith, small, few_split few stopped d)) documents within in
+    (λ d small. omega (arith, small, few_split stopped d)) documents within in
     let all = sum_by-le (λ d. length (split_words stopped d)) 25165824 documents each in
     omega (arith, length-flat_map (split_words stopped) documents, all, count)

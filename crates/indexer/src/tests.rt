@@ -2,12 +2,15 @@
 // by values worked out by hand.
 ghost use Rattle.std.specs.Prelude.{◌≤◌, length};
 
-use crate::{Document, Item, ItemOp, Shard, Totals};
+use crate::{Document, Index, Item, ItemOp, Shard, Totals, build};
 use class_laws::{Both, Class, CountMap, Max, Reducible, WrapSum, no_reading};
+use delegation::Plain;
 use doc_words::StopSet;
 use ss_base::OutOfMemory;
 use std::alloc::Global;
+use std::sync::Wait;
 use std::test::Fail;
+use std::thread::Threads;
 
 fn document(alloc: Global, text: &[u8]) -> Result<Item, OutOfMemory>
     requires { length text.now ≤ 8388608 }
@@ -120,5 +123,52 @@ fn what_does_not_fit_changes_nothing(rt: HostRuntime) -> Result<(), Fail> {
     assert_eq!(rt; words, WrapSum(1));
     assert_eq!(rt; counts.count("cat"), 1);
     assert_eq!(rt; Item::own_set(&ItemOp::Split), 0);
+    Ok(())
+}
+
+// The index of two documents: its numbers, and each term with its total and its places.
+fn indexed<R: Threads + Wait + Copy + Send + Sync + 'static>(
+    rt: &R,
+    alloc: Global,
+    first: &[u8],
+    second: &[u8],
+    stop: &[u8],
+) -> Result<String, OutOfMemory>
+    requires first { length first.now ≤ 8388608 }
+    requires second { length second.now ≤ 8388608 }
+    requires stop { length stop.now ≤ 8388608 }
+{
+    let mut documents = Vec::new(alloc);
+    documents.push(first.to_vec(alloc)?)?;
+    documents.push(second.to_vec(alloc)?)?;
+    let stop = StopSet::of(alloc, stop)?;
+    let mut plain = Plain::new(alloc)?;
+    let index = build(rt, alloc, &mut plain, documents, stop)?;
+    let mut text = String::new(alloc);
+    let Index {
+        documents,
+        words,
+        longest,
+        terms,
+    } = &index;
+    write!(text, "{documents} {words} {longest}")?;
+    for term in terms {
+        let total = term.total;
+        let name = term.text.as_str();
+        write!(text, "; {name} {total}")?;
+        for (document, position) in term.postings.iter() {
+            write!(text, " {document}:{position}")?;
+        }
+    }
+    Ok(text)
+}
+
+#[test]
+fn documents_are_indexed_without_stopped_terms(rt: HostRuntime) -> Result<(), Fail> {
+    let alloc = rt.alloc();
+    let all = indexed(&rt, alloc, b"b a", b"a", b"")?;
+    assert_eq!(rt; all.as_str(), "2 3 1; a 2 1:2 2:1; b 1 1:1");
+    let some = indexed(&rt, alloc, b"the cat the", b"", b"The")?;
+    assert_eq!(rt; some.as_str(), "2 1 3; cat 1 1:2");
     Ok(())
 }
