@@ -1,4 +1,2 @@
-pub mod GroupsLemmas
-pub mod OneDocumentLemmas
 pub mod PrintingLemmas
 pub mod TextsLemmas

@@ -1,3 +1,2 @@
-pub mod Groups
-pub mod OneDocument
 pub mod Printing
+pub mod Summary

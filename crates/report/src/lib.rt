@@ -1,13 +1,11 @@
-//! The index of a document, and its text.
+//! The texts of an index.
 #![tactic(auto)]
 
-mod index;
-mod one_document;
 mod print;
+mod summary;
 
-pub use index::{Index, Term};
-pub use one_document::index_of_document;
 pub use print::{print_index, push_term};
+pub use summary::print_summary;
 
 #[cfg(test)]
 mod tests;

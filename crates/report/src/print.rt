@@ -5,7 +5,7 @@ ghost use Rattle.index_definitions.specs.IndexText.{escaped, escaped_byte, posti
 ghost use Rattle.index_definitions.specs.IndexText.{count_line, term_line, text_of_index};
 ghost use Rattle.report.specs.Printing.{lead_text};
 
-use crate::{Index, Term};
+use indexer::{Index, Term};
 use itoa::Buffer;
 use postings::Postings;
 use ss_base::OutOfMemory;
@@ -114,9 +114,9 @@ fn push_lines(alloc: Global, text: &mut Vec<u8>, terms: &[Term]) -> Result<(), O
     Ok(())
 }
 
-// Appends a line of a word and a number.
+/// Appends a line of a word and a number.
 #[tactic(auto, unfolding(index_definitions::specs::IndexText::count_line))]
-fn push_count(text: &mut Vec<u8>, word: &[u8], number: u64) -> Result<(), OutOfMemory>
+pub(crate) fn push_count(text: &mut Vec<u8>, word: &[u8], number: u64) -> Result<(), OutOfMemory>
     ensures { OnOk result (text.new.items ≡ text.old.items ++ count_line word.now number) }
 {
     text.extend_from_slice(word)?;

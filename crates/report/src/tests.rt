@@ -1,5 +1,9 @@
-// What no clause says: that memory is found, and how a term is escaped.
-use crate::{index_of_document, print_index, push_term};
+// What no clause says: that memory is found, and what the texts look like.
+use crate::{print_index, print_summary, push_term};
+use indexer::{Index, Term};
+use postings::Postings;
+use ss_base::Text;
+use std::alloc::Global;
 use std::test::Fail;
 
 #[test]
@@ -11,12 +15,48 @@ fn a_term_is_escaped(rt: HostRuntime) -> Result<(), Fail> {
     Ok(())
 }
 
+// The index of `b a b` and `a`.
+fn index_of_two(alloc: Global) -> Result<Index, Fail> {
+    let mut of_a = Postings::new(alloc);
+    of_a.append(1, &[2])?;
+    of_a.append(2, &[1])?;
+    let mut of_b = Postings::new(alloc);
+    of_b.append(1, &[1, 3])?;
+    let mut terms = Vec::new(alloc);
+    terms.push(Term {
+        text: Text::of(alloc, "a")?,
+        total: 2,
+        postings: of_a,
+    })?;
+    terms.push(Term {
+        text: Text::of(alloc, "b")?,
+        total: 2,
+        postings: of_b,
+    })?;
+    Ok(Index {
+        documents: 2,
+        words: 4,
+        longest: 1,
+        terms,
+    })
+}
+
 #[test]
 fn an_index_is_printed(rt: HostRuntime) -> Result<(), Fail> {
     let alloc = rt.alloc();
-    let index = index_of_document(alloc, b"b a b".to_vec(alloc)?)?;
+    let index = index_of_two(alloc)?;
     let text = print_index(alloc, &index)?;
-    let wanted = b"documents 1\nwords 3\nlongest 1\nterms 2\na 1 1:2\nb 2 1:1,3\n";
+    let wanted = b"documents 2\nwords 4\nlongest 1\nterms 2\na 2 1:2;2:1\nb 2 1:1,3\n";
+    assert_eq!(rt; text.as_slice(), wanted.as_slice());
+    Ok(())
+}
+
+#[test]
+fn an_index_is_summed_up(rt: HostRuntime) -> Result<(), Fail> {
+    let alloc = rt.alloc();
+    let index = index_of_two(alloc)?;
+    let text = print_summary(alloc, &index)?;
+    let wanted = b"documents 2\nwords 4\nterms 2\npositions 7\n";
     assert_eq!(rt; text.as_slice(), wanted.as_slice());
     Ok(())
 }

@@ -1,8 +1,9 @@
 -- Generated words and documents, one more.
 use Rattle.std.proofs.Common.{◌≡◌, ℕ, zero, suc, ◌+◌, ◌*◌, ◌<◌, ◌≤◌, List, [], ◌∷◌, ◌++◌, map}
-use Rattle.std.proofs.Common.{length, drop, sym, ap, ap₂, ◌∙◌, arith, add-one, append-nil}
+use Rattle.std.proofs.Common.{length, drop, sym, ap, ◌∙◌, ⊎_elim, arith, add-one, append-nil}
 use Rattle.std.proofs.Common.{append_assoc, length-append, min, false, cond, nat_lt, Some, None}
 use Rattle.std.specs.Prelude.{sum_by}
+use Rattle.std.proofs.lemmas.Bool.{cases_Bool}
 use Rattle.std.specs.List.{flat_map, range_with_len}
 use Rattle.std.proofs.lemmas.List.{take-append-drop}
 use Rattle.std.proofs.lemmas.List.FromFn.{map-range_with_len_more, take-map-range_with_len}
@@ -11,9 +12,8 @@ use Rattle.ss_top.specs.declared.status.LimitHit.TheVariants.{Names}
 use Rattle.ss_top.specs.Generated.{state_after, state_at, generated_word, generated_document}
 use Rattle.ss_top.specs.Generated.{generated_documents, generated_limit}
 use Rattle.ss_top.specs.Limits.{names_limit, document_limit, all_documents_limit}
-use Rattle.ss_top.specs.Limits.{limit_with, first_limit, first_limit_from}
-use Rattle.ss_top.proofs.LimitsLemmas.{first_limit_from-append, first_limit_from-passed}
-use Rattle.ss_top.proofs.LimitsLemmas.{first_limit_from-within}
+use Rattle.ss_top.specs.Limits.{limit_with, first_limit}
+use Rattle.ss_top.proofs.LimitsLemmas.{first_limit-push, first_limit-passed}
 use Rattle.ss_top.proofs.PartsLemmas.{flat_map-append}
 
 pub state_at-more : (x n : ℕ) → state_at x (n + 1) ≡ state_after (state_at x n)
@@ -94,26 +94,13 @@ module _ (words seed : ℕ) where
   module _ (n left : ℕ)
       (sum : left + sum_by length (generated_documents n words seed) ≡ all_documents_limit)
       (none : first_limit (generated_documents n words seed) ≡ None) where
-    -- the limit of documents of which the first n meet none
-    first_limit-behind :
-        (ds : List (List ℕ))
-        → first_limit (generated_documents n words seed ++ ds)
-        ≡ first_limit_from (sum_by length (generated_documents n words seed)) (n + 1) ds
-    first_limit-behind ds =
-        let before = sum_by length (generated_documents n words seed) in
-        let zero_more : 0 + before ≡ before = omega arith in
-        let number : 1 + length (generated_documents n words seed) ≡ n + 1 =
-        omega (arith, length-map-range_with_len document_at 0 n) in
-        first_limit_from-append 0 1 (generated_documents n words seed) ds none
-        ∙ ap₂ (λ b i. first_limit_from b i ds) zero_more number
-
     -- one document more that meets none
     pub first_limit-more :
         length (document_at n) ≤ min left document_limit
         → first_limit (generated_documents (n + 1) words seed) ≡ None
     first_limit-more within =
-        ap first_limit (generated_documents-more n) ∙ first_limit-behind (document_at n ∷ [])
-        ∙ first_limit_from-within _ left (n + 1) (document_at n) [] sum within
+        ap first_limit (generated_documents-more n)
+        ∙ first_limit-push (generated_documents n words seed) left sum none (document_at n) within
 
     -- a document that passes what is left
     pub generated_limit-met :
@@ -122,7 +109,26 @@ module _ (words seed : ℕ) where
         → generated_limit docs words seed ≡ Some (limit_with (n + 1) left)
     generated_limit-met docs less few passes =
         let rest = drop (n + 1) (generated_documents docs words seed) in
+        let number : length (generated_documents n words seed) + 1 ≡ n + 1 =
+        omega (arith, length-map-range_with_len document_at 0 n) in
         generated_limit-few docs few
         ∙ ap first_limit (generated_documents-split n docs less)
-        ∙ first_limit-behind (document_at n ∷ rest)
-        ∙ first_limit_from-passed _ left (n + 1) (document_at n) rest sum passes
+        ∙ first_limit-passed (generated_documents n words seed) left sum none (document_at n) rest
+        passes
+        ∙ ap (λ i. Some (limit_with i left)) number
+
+  pub length-generated_documents : (n : ℕ) → length (generated_documents n words seed) ≡ n
+  length-generated_documents n = length-map-range_with_len document_at 0 n
+
+  -- documents that meet no limit aren't too many
+  pub generated_limit-none :
+      (docs : ℕ) → generated_limit docs words seed ≡ None
+      → (docs ≤ names_limit) × (first_limit (generated_documents docs words seed) ≡ None)
+  generated_limit-none docs none =
+      ⊎_elim
+      (λ over. let some : generated_limit docs words seed ≡ Some (Names docs) =
+      ap (λ b. cond b (Some (Names docs)) (first_limit (generated_documents docs words seed))) over
+      in cc)
+      (λ fits. let few : docs ≤ names_limit = grind arith in
+      (few, sym (generated_limit-few docs few) ∙ none))
+      (cases_Bool (nat_lt names_limit docs))

@@ -1,4 +1,6 @@
+pub mod CommandLineLemmas
 pub mod GeneratedLemmas
+pub mod IndexLemmas
 pub mod LimitsLemmas
 pub mod LinesLemmas
 pub mod PartsLemmas

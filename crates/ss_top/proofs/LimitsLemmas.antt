@@ -1,14 +1,17 @@
 -- Documents one behind the other, of which the first ones meet no limit.
 use Rattle.std.proofs.Common.{◌≡◌, ℕ, ◌+◌, ◌<◌, ◌≤◌, nat_lt, nat_le, Bool, true, false, cond, min}
-use Rattle.std.proofs.Common.{List, [], ◌∷◌, ◌++◌, length, Some, None}
+use Rattle.std.proofs.Common.{List, [], ◌∷◌, ◌++◌, length, map, Some, None, vec_len}
 use Rattle.std.proofs.Common.{refl, sym, ap, ap₂, ◌∙◌, ⊎_elim, arith}
 use Rattle.std.specs.Prelude.{◌&&◌, sum_by}
+use Rattle.std.specs.Global.{Vec}
+use Rattle.std.specs.List.{AllByRecursion}
 use Rattle.std.proofs.lemmas.Bool.{cases_Bool}
 use Rattle.std.proofs.lemmas.List.Sums.{sum_by-cons}
 use Rattle.std.specs.declared.option.Option.{Option}
 use Rattle.ss_top.specs.declared.status.LimitHit.{LimitHit}
 use Rattle.ss_top.specs.declared.status.LimitHit.TheVariants.{Document, AllDocuments}
-use Rattle.ss_top.specs.Limits.{document_limit, all_documents_limit, limit_with, first_limit_from}
+use Rattle.ss_top.specs.Limits.{document_limit, all_documents_limit, limit_with}
+use Rattle.ss_top.specs.Limits.{first_limit, first_limit_from}
 
 -- what is neither of two limits is the third
 neither : (a b : Bool) (x y : LimitHit) (rest : Option LimitHit)
@@ -84,3 +87,58 @@ module _ (before left i : ℕ) (d : List ℕ) (ds : List (List ℕ))
       let all : nat_lt all_documents_limit (before + length d) ≡ false = grind arith in
       third _ _ (Document i) (AllDocuments i) others
       (ap (λ a. a && nat_le (before + document_limit) all_documents_limit) own) all
+
+module _ (ds : List (List ℕ)) (left : ℕ) (sum : left + sum_by length ds ≡ all_documents_limit)
+    (none : first_limit ds ≡ None) where
+  -- the limit of documents of which the first ones meet none
+  first_limit-behind :
+      (es : List (List ℕ))
+      → first_limit (ds ++ es) ≡ first_limit_from (sum_by length ds) (length ds + 1) es
+  first_limit-behind es =
+      let zero_more : 0 + sum_by length ds ≡ sum_by length ds = omega arith in
+      let number : 1 + length ds ≡ length ds + 1 = omega arith in
+      first_limit_from-append 0 1 ds es none
+      ∙ ap₂ (λ b i. first_limit_from b i es) zero_more number
+
+  -- one document more that meets none
+  pub first_limit-push :
+      (d : List ℕ) → length d ≤ min left document_limit → first_limit (ds ++ d ∷ []) ≡ None
+  first_limit-push d within =
+      first_limit-behind (d ∷ [])
+      ∙ first_limit_from-within (sum_by length ds) left (length ds + 1) d [] sum within
+
+  -- a document that passes what is left, and whatever stands behind it
+  pub first_limit-passed :
+      (d : List ℕ) (es : List (List ℕ))
+      → min left document_limit < length d
+      → first_limit (ds ++ d ∷ es) ≡ Some (limit_with (length ds + 1) left)
+  first_limit-passed d es passes =
+      first_limit-behind (d ∷ es)
+      ∙ first_limit_from-passed (sum_by length ds) left (length ds + 1) d es sum passes
+
+-- what is within both limits is within the first
+within_own :
+    (before n : ℕ)
+    → (nat_lt document_limit n && nat_le (before + document_limit) all_documents_limit) ≡ false
+    → nat_lt all_documents_limit (before + n) ≡ false → n ≤ document_limit
+within_own before n own all =
+    ⊎_elim
+    (λ passes.
+    let room : nat_le (before + document_limit) all_documents_limit ≡ false = cc in
+    grind arith)
+    (λ fits. grind arith)
+    (cases_Bool (nat_lt document_limit n))
+
+-- of documents that meet no limit each is within its own
+pub AllByRecursion-within :
+    (before i : ℕ) (ds : List (Vec ℕ))
+    → first_limit_from before i (map (λ d. d.items) ds) ≡ None
+    → AllByRecursion (λ d. vec_len d ≤ document_limit) ds
+AllByRecursion-within before i [] none = tt
+AllByRecursion-within before i (d ∷ ds) none =
+    let parts = neither _ _ (Document i) (AllDocuments i)
+    (first_limit_from (before + length d.items) (i + 1) (map (λ e. e.items) ds)) none in
+    let own = within_own before (length d.items) parts.0 parts.1 in (
+      omega (arith, own, d.ok.0),
+      AllByRecursion-within (before + length d.items) (i + 1) ds parts.2,
+    )

@@ -6,3 +6,4 @@ pub mod Answers
 pub mod Texts
 pub mod Runs
 pub mod Printings
+pub mod Readings

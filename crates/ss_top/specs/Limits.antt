@@ -22,6 +22,10 @@ document_limit = 8388608
 abbrev pub all_documents_limit : ℕ
 all_documents_limit = 67108864
 
+-- the most bytes of a stop list
+abbrev pub stop_bytes_limit : ℕ
+stop_bytes_limit = 8388608
+
 -- the most bytes of a script
 abbrev pub script_bytes_limit : ℕ
 script_bytes_limit = 1048576

@@ -10,9 +10,15 @@ use Rattle.ss_top.specs.declared.status.Status.{Status}
 use Rattle.ss_top.specs.declared.status.Status.TheVariants.{Done, Usage, ReadFault, WriteFault}
 use Rattle.ss_top.specs.declared.status.Status.TheVariants.{OutOfMemory, Limit, Refused, Text}
 use Rattle.ss_top.specs.declared.command.Command.{Command}
+use Rattle.ss_top.specs.declared.command.Command.TheVariants.{Gen}
 use Rattle.ss_top.specs.Answers.{Answer, over_limit, prints, has_fault, stops}
 use Rattle.ss_top.specs.Answers.{text_printed, expected_answer}
 use Rattle.ss_top.specs.Texts.{status_text, names_in}
+
+-- what is left of a command's last input: nothing, where it has none
+abbrev pub left_of : Option Command → Option (List ℕ) → Option (List ℕ)
+left_of (Some (Gen docs words seed)) left = Some []
+left_of command left = left
 
 -- a fact of contents that are told
 abbrev pub IfTold : Option Contents → (Contents → Type 0) → Type 0
@@ -27,7 +33,8 @@ CallsFor contents command answer =
 -- where contents are told, they call for this answer, and nothing is left of the last input
 abbrev pub CallsForWhole : Option Contents → Command → Answer → Option (List ℕ) → Type 0
 CallsForWhole contents command answer left =
-    IfTold contents (λ told. (expected_answer command told ≡ Some answer) × (left ≡ Some []))
+    IfTold contents (λ told.
+    (expected_answer command told ≡ Some answer) × (left_of (Some command) left ≡ Some []))
 
 -- out gained the text that was called for, and nothing is left of the last input
 pub record PrintsAll (answer : Option Answer) (before after left : Option (List ℕ)) : Type 0 where

@@ -36,10 +36,10 @@ usage_text =
 unfoldable pub memory_text : List ℕ
 memory_text = codes "ssidx: out of memory\n"
 
--- the name of an input, as it was given
-abbrev pub name_text : Option Command → Which → List ℕ
-name_text None which = []
-name_text (Some command) which = unwrap_or (input_name command which) []
+-- the name of an input, as it was given, where the command has that input
+abbrev pub given_name : Option Command → Which → Option (List ℕ)
+given_name None which = None
+given_name (Some command) which = input_name command which
 
 unfoldable pub read_fault_text : List ℕ → List ℕ
 read_fault_text name = codes "ssidx: cannot read " ++ name ++ codes "\n"
@@ -50,10 +50,13 @@ write_fault_text = codes "ssidx: cannot write\n"
 unfoldable pub names_text : ℕ → List ℕ
 names_text n = codes "ssidx: limit: " ++ decimal n ++ codes " names are over 65536\n"
 
-unfoldable pub document_text : ℕ → List ℕ → List ℕ
-document_text i name =
+-- a document that has no name is told without one
+unfoldable pub document_text : ℕ → Option (List ℕ) → List ℕ
+document_text i (Some name) =
     codes "ssidx: limit: document " ++ decimal i ++ codes " is over 8388608 bytes: " ++ name
     ++ codes "\n"
+document_text i None =
+    codes "ssidx: limit: document " ++ decimal i ++ codes " is over 8388608 bytes\n"
 
 unfoldable pub all_documents_text : ℕ → List ℕ
 all_documents_text i =
@@ -74,7 +77,7 @@ schedule_bytes_text = codes "ssidx: limit: schedule is over 1048576 bytes\n"
 -- the text of a limit that a command passed
 abbrev pub limit_text : Option Command → LimitHit → List ℕ
 limit_text command (Names n) = names_text n
-limit_text command (Document i) = document_text i (name_text command (Name i))
+limit_text command (Document i) = document_text i (given_name command (Name i))
 limit_text command (AllDocuments i) = all_documents_text i
 limit_text command StopBytes = stop_bytes_text
 limit_text command ScriptBytes = script_bytes_text
@@ -136,7 +139,8 @@ refusal_text names refusal.TooManyCalls = codes "too many calls"
 abbrev pub status_text : Option Command → List (List ℕ) → Status → List ℕ
 status_text command names Done = []
 status_text command names Usage = usage_text
-status_text command names (ReadFault which) = read_fault_text (name_text command which)
+status_text command names (ReadFault which) =
+    read_fault_text (unwrap_or (given_name command which) [])
 status_text command names WriteFault = write_fault_text
 status_text command names OutOfMemory = memory_text
 status_text command names (Limit hit) = limit_text command hit

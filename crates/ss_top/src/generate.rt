@@ -3,11 +3,11 @@ ghost use Rattle.std.specs.Prelude.{◌≡◌, ◌+◌, ◌^◌, ◌<◌, ◌≤
 ghost use Rattle.std.specs.Prelude.{vec_len, IfOk, OnOk, MatchBool, MatchOption};
 ghost use Rattle.ss_top.specs.Generated.{state_after, state_at, generated_word, generated_document};
 ghost use Rattle.ss_top.specs.Generated.{generated_documents, generated_limit};
-ghost use Rattle.ss_top.specs.Limits.{names_limit, limit_with};
+ghost use Rattle.ss_top.specs.Limits.{names_limit};
 ghost use Rattle.ss_top.specs.declared.generate.GenFault.TheVariants as fault;
 
 use crate::LimitHit;
-use crate::limits::{ALL_DOCUMENTS_LIMIT, DOCUMENT_LIMIT, NAMES_LIMIT};
+use crate::limits::{ALL_DOCUMENTS_LIMIT, DOCUMENT_LIMIT, NAMES_LIMIT, limit_at};
 use itoa::Buffer;
 use ss_base::OutOfMemory;
 use std::alloc::{AllocError, AllocFailed, Global};
@@ -100,17 +100,6 @@ fn gen_document(
         }
     }
     Ok(Some(document))
-}
-
-// The limit that a document passes, with so many bytes left for it of those for all documents.
-fn limit_at(number: u32, left: usize) -> LimitHit
-    ensures { result ≡ limit_with number left }
-{
-    if DOCUMENT_LIMIT <= left {
-        LimitHit::Document(number)
-    } else {
-        LimitHit::AllDocuments(number)
-    }
 }
 
 /// So many documents of so many words each, from a generator of numbers that begins at `seed`.

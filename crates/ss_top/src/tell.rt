@@ -1,10 +1,12 @@
 // The texts on the error stream. None takes memory.
 ghost use Rattle.std.specs.Prelude.{◌≡◌, ◌++◌, Some, decimal};
 ghost use Rattle.std.specs.List.{flat_map};
+ghost use Rattle.std.specs.Option.{option_copied};
 ghost use Rattle.ss_base.specs.Faults.{HasCause};
 ghost use Rattle.ss_base.specs.Sinks.{GainsAll};
+ghost use Rattle.ss_top.specs.CommandLine.{name_at};
 ghost use Rattle.ss_top.specs.Runs.{Tells};
-ghost use Rattle.ss_top.specs.Texts.{name_text, status_text, limit_text, usage_text};
+ghost use Rattle.ss_top.specs.Texts.{given_name, status_text, limit_text, usage_text};
 ghost use Rattle.ss_top.specs.Texts.{memory_text, read_fault_text, document_text};
 ghost use Rattle.ss_top.specs.Texts.{line_text, kind_text, fault_text, object_name, object_text};
 ghost use Rattle.ss_top.specs.Texts.{two_sets_text, private_text, refusal_text};
@@ -15,7 +17,7 @@ use crate::{Command, LimitHit, Status, TextFault, Which};
 use execution_definitions::Refusal;
 use itoa::Buffer;
 use script_lang::{Script, ScriptKind};
-use ss_base::{Failed, ObjectId, SetId, Sink, write_all};
+use ss_base::{Failed, ObjectId, SetId, Sink, Texts, write_all};
 
 const USAGE: &[u8] =
     b"usage: ssidx index [--delegates N] [--mode lanes|batch] [--ring N] [--stop FILE] NAME...
@@ -65,14 +67,23 @@ pub fn tell_memory<E: Sink>(err: &mut E)
     tell(err, &[MEMORY]);
 }
 
-// The name of an input, as it was given.
-fn name_of(command: &Command, which: Which) -> &str
-    ensures { result.now ≡ name_text (Some command.now) which }
+// The name with this number, counted from 1.
+fn name_at(names: &Texts, number: u32) -> Option<&str>
+    ensures { option_copied result ≡ name_at names.now number }
+{
+    let place = (number as usize).checked_sub(1)?;
+    Some(names.as_slice().get(place)?.as_str())
+}
+
+// The name of an input, as it was given, where the command has that input.
+fn given_name(command: &Command, which: Which) -> Option<&str>
+    ensures { option_copied result ≡ given_name (Some command.now) which }
 {
     match (command, which) {
-        (Command::Index { name }, Which::Name(1)) => name.as_str(),
-        (Command::Script { name }, Which::Script) => name.as_str(),
-        _ => "",
+        (Command::Index { stop, .. }, Which::Stop) => Some(stop.as_ref()?.as_str()),
+        (Command::Index { names, .. }, Which::Name(number)) => name_at(names, number),
+        (Command::Script { name }, Which::Script) => Some(name.as_str()),
+        _ => None,
     }
 }
 
@@ -84,10 +95,26 @@ fn tell_read_fault<E: Sink>(err: &mut E, name: &str)
     tell(err, &[b"ssidx: cannot read ", name.as_bytes(), b"\n"]);
 }
 
-// Writes which document is too long.
-fn tell_document<E: Sink>(err: &mut E, document: u32, name: &str)
+// Writes which document is too long. A generated one has no name.
+fn tell_document<E: Sink>(err: &mut E, document: u32, name: Option<&str>)
     ensures { Tells (E.gained err.old) (E.gained err.new) (E.faults err.old) (E.faults err.new)
-        (document_text document name.now) }
+        (document_text document (option_copied name.entry)) }
+{
+    match name {
+        Some(name) => tell_named_document(err, document, name),
+        None => tell_number(
+            err,
+            b"ssidx: limit: document ",
+            u64::from(document),
+            b" is over 8388608 bytes\n",
+        ),
+    }
+}
+
+// Writes which document under this name is too long.
+fn tell_named_document<E: Sink>(err: &mut E, document: u32, name: &str)
+    ensures { Tells (E.gained err.old) (E.gained err.new) (E.faults err.old) (E.faults err.new)
+        (document_text document (Some name.now)) }
 {
     let mut buffer = Buffer::new();
     let number = buffer.format(document).as_bytes();
@@ -120,7 +147,7 @@ fn tell_limit<E: Sink>(err: &mut E, command: &Command, hit: LimitHit)
 {
     match hit {
         LimitHit::Names(n) => tell_number(err, b"ssidx: limit: ", n, b" names are over 65536\n"),
-        LimitHit::Document(i) => tell_document(err, i, name_of(command, Which::Name(i))),
+        LimitHit::Document(i) => tell_document(err, i, given_name(command, Which::Name(i))),
         LimitHit::AllDocuments(i) => tell_number(
             err,
             b"ssidx: limit: documents to ",
@@ -291,7 +318,9 @@ pub(crate) fn tell_status<E: Sink>(err: &mut E, command: &Command, ended: &Ended
     match ended.status {
         Status::Done => {}
         Status::Usage => tell_usage(err),
-        Status::ReadFault(which) => tell_read_fault(err, name_of(command, which)),
+        Status::ReadFault(which) => {
+            tell_read_fault(err, given_name(command, which).unwrap_or(""));
+        }
         Status::WriteFault => tell(err, &[b"ssidx: cannot write\n"]),
         Status::OutOfMemory => tell_memory(err),
         Status::Limit(hit) => tell_limit(err, command, hit),

@@ -4,9 +4,9 @@ ghost use Rattle.std.specs.Prelude.{ℕ, [], true, false};
 ghost use Rattle.std.specs.Io.KnownBytes.{Keeps};
 ghost use Rattle.ss_base.specs.Faults.{Rose};
 ghost use Rattle.ss_top.specs.Answers.{answer_to};
-ghost use Rattle.ss_top.specs.CommandLine.{outcome, IsInputOf};
+ghost use Rattle.ss_top.specs.CommandLine.{outcome, CanBeAsked, IsInputOf};
 ghost use Rattle.ss_top.specs.Printings.{printed_answer, script_names, HasNames};
-ghost use Rattle.ss_top.specs.Runs.{IfTold, Meets, Completes, TellsStatus};
+ghost use Rattle.ss_top.specs.Runs.{IfTold, left_of, Meets, Completes, TellsStatus};
 ghost use Rattle.ss_top.specs.Statuses.{has_written};
 
 use crate::commands::{Broken, Printed, Stop, text_of};
@@ -71,6 +71,7 @@ fn carry_out<R, L: Shelf, K: Sink>(
 ) -> Ended
 where
     R: Threads + Wait + Copy + Send + Sync + 'static,
+    requires { CanBeAsked command.now }
     ensures usage { result.status ≢ Status.Usage }
     ensures read_fault { (which : Which) → result.status ≡ Status.ReadFault which →
         IsInputOf (Some command.now) which × Rose (L.faults shelf.old) (L.faults shelf.new) }
@@ -82,7 +83,7 @@ where
         IsInputOf (Some command.now) Which.Script }
     ensures meets { IfTold (L.contents shelf.old) (λ contents.
         Meets (answer_to (Some command.now) contents) result.status
-        (K.gained out.old) (K.gained out.new) (L.left shelf.new)) }
+        (K.gained out.old) (K.gained out.new) (left_of (Some command.now) (L.left shelf.new))) }
     ensures quiet { has_written result.status ≡ false → Keeps (K.gained out.old) (K.gained out.new) }
     ensures complete { IfTold (L.contents shelf.old) (λ contents.
         Completes (answer_to (Some command.now) contents) result.status
@@ -131,7 +132,8 @@ where
     // Where contents are told, the status is the one that they call for, and so is what out gained.
     ensures meets { IfTold (L.contents shelf.old) (λ contents.
         Meets (answer_to (outcome (map string_bytes words.now)) contents) result
-        (K.gained out.old) (K.gained out.new) (L.left shelf.new)) }
+        (K.gained out.old) (K.gained out.new)
+        (left_of (outcome (map string_bytes words.now)) (L.left shelf.new))) }
     ensures quiet { has_written result ≡ false → Keeps (K.gained out.old) (K.gained out.new) }
 
     // What is called for is printed, unless the outside failed or memory ran out.

@@ -11,12 +11,12 @@ ghost use Rattle.ss_top.specs.Printings.{printed_answer, IsBrokenBy};
 ghost use Rattle.ss_top.specs.Runs.{CallsFor, CallsForWhole};
 ghost use Rattle.ss_top.specs.declared.command.Command.TheVariants as command;
 
-use crate::commands::{Broken, Printed, Stop};
+use crate::commands::{Broken, Printed, Stop, read_input};
 use crate::limits::{SCRIPT_BYTES_LIMIT, SCRIPT_LINES_LIMIT};
 use crate::{LimitHit, TextFault, Which};
 use delegation::Plain;
 use script_lang::{ParseFault, Script, Shown, parse, run_script};
-use ss_base::{OutOfMemory, ReadStop, Shelf, read_all};
+use ss_base::{OutOfMemory, Shelf};
 use std::alloc::Global;
 use std::sync::Wait;
 use std::thread::Threads;
@@ -55,12 +55,8 @@ fn read_script<L: Shelf>(alloc: Global, shelf: &mut L, name: &str) -> Result<Vec
         CallsFor (L.contents shelf.old) (command.Script name.now) (over_limit hit) }
     ensures text { (fault : TextFault) → result ≢ Err (Stop.Text fault) }
 {
-    let script = match read_all(alloc, shelf, name, SCRIPT_BYTES_LIMIT) {
-        Ok(script) => script,
-        Err(ReadStop::Failed) => return Err(Stop::ReadFault(Which::Script)),
-        Err(ReadStop::TooLong) => return Err(Stop::Limit(LimitHit::ScriptBytes)),
-        Err(ReadStop::OutOfMemory) => return Err(Stop::OutOfMemory),
-    };
+    let hit = LimitHit::ScriptBytes;
+    let script = read_input(alloc, shelf, name, SCRIPT_BYTES_LIMIT, Which::Script, hit)?;
     if line_count(&script) > SCRIPT_LINES_LIMIT {
         return Err(Stop::Limit(LimitHit::ScriptLines));
     }

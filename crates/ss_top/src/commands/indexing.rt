@@ -1,0 +1,31 @@
+// The index of documents, on a runtime of its own.
+ghost use Rattle.std.specs.Prelude.{◌≡◌, ◌≤◌, ℕ, List, None, map, length, IfOk};
+ghost use Rattle.index_definitions.specs.Index.{index};
+ghost use Rattle.indexer.specs.Builds.{Stops};
+ghost use Rattle.ss_top.specs.Limits.{names_limit, first_limit};
+
+use delegation::Plain;
+use doc_words::StopSet;
+use indexer::{Index, build};
+use ss_base::OutOfMemory;
+use std::alloc::Global;
+use std::sync::Wait;
+use std::thread::Threads;
+
+/// The index of documents that pass no limit, without the stopped terms.
+pub(crate) fn index_of<R>(
+    rt: &R,
+    alloc: Global,
+    documents: Vec<Vec<u8>>,
+    stop: StopSet,
+) -> Result<Index, OutOfMemory>
+where
+    R: Threads + Wait + Copy + Send + Sync + 'static,
+    requires few { length documents.items ≤ names_limit }
+    requires within { first_limit (map (λ document. document.items) documents.items) ≡ None }
+    ensures { IfOk result (λ made. (list : List ℕ) → Stops stop list →
+        made ≡ index (map (λ document. document.items) documents.items) list) }
+{
+    let mut plain = Plain::new(alloc)?;
+    build(rt, alloc, &mut plain, documents, stop)
+}
