@@ -4,7 +4,7 @@ ghost use Rattle.index_definitions.specs.Index.{index};
 ghost use Rattle.indexer.specs.Builds.{Stops};
 ghost use Rattle.ss_top.specs.Limits.{names_limit, first_limit};
 
-use delegation::Plain;
+use delegation::{Delegation, Plain};
 use doc_words::StopSet;
 use indexer::{Index, build};
 use ss_base::OutOfMemory;
@@ -27,5 +27,8 @@ where
         made ≡ index (map (λ document. document.items) documents.items) list) }
 {
     let mut plain = Plain::new(alloc)?;
-    build(rt, alloc, &mut plain, documents, stop)
+    let index = build(rt, alloc, &mut plain, documents, stop);
+    // The documents and the shards are given up before the index is printed.
+    plain.finish(rt)?;
+    index
 }

@@ -14,7 +14,7 @@ ghost use Rattle.ss_top.specs.declared.command.Command.TheVariants as command;
 use crate::commands::{Broken, Printed, Stop, read_input};
 use crate::limits::{SCRIPT_BYTES_LIMIT, SCRIPT_LINES_LIMIT};
 use crate::{LimitHit, TextFault, Which};
-use delegation::Plain;
+use delegation::{Delegation, Plain};
 use script_lang::{ParseFault, Script, Shown, parse, run_script};
 use ss_base::{OutOfMemory, Shelf};
 use std::alloc::Global;
@@ -90,8 +90,9 @@ where
         IfSome printed.broken (λ broken. broken.script ≡ script)) }
 {
     let mut plain = Plain::new(alloc)?;
-    let shown = run_script(rt, alloc, &mut plain, &script)?;
-    Ok(printed(shown, script))
+    let shown = run_script(rt, alloc, &mut plain, &script);
+    plain.finish(rt)?;
+    Ok(printed(shown?, script))
 }
 
 /// What the script under this name shows.
