@@ -1,11 +1,11 @@
 -- Postings as numbers, and read off them again.
-use Rattle.std.proofs.Common.{ℕ, zero, suc, ◌≡◌, ◌<◌, ◌+◌, ◌∙◌, List, [], ◌∷◌, ◌++◌, length}
+use Rattle.std.proofs.Common.{ℕ, zero, suc, ◌≡◌, ◌<◌, ◌∙◌, List, [], ◌∷◌, ◌++◌, length}
 use Rattle.std.proofs.Common.{◌≤◌, ◌-◌, get_or, take, drop, sym, ap, refl, arith}
 use Rattle.std.proofs.Math.Seq.{take-append_seam, drop-append_seam}
 use Rattle.std.proofs.lemmas.List.{append-nil, take_all}
 use Rattle.std.proofs.lemmas.Grind.{flat_map-append}
 use Rattle.postings.specs.Numbers.{numbers_in, numbers_of, lists_after, lists_of, HoldPostings}
-use Rattle.index_definitions.specs.PostingLists.{ArePositions, ListsPostings, last_document}
+use Rattle.index_definitions.specs.PostingLists.{ArePositions, last_document}
 use Rattle.postings.proofs.PostingListsLemmas.{ListsPostings-append, ListsPostings-of_above}
 
 -- what is skipped doesn't count
@@ -28,13 +28,15 @@ lists_of-numbers (e ∷ es) =
     (take-append_seam e.1 rest)
     ∙ ap (λ fs. e ∷ fs) others
 
+-- a document more has its numbers at the end
 numbers_of-append :
     (es : List (ℕ × List ℕ)) (e : ℕ × List ℕ)
     → numbers_of (es ++ e ∷ []) ≡ numbers_of es ++ numbers_in e
 numbers_of-append es e =
-    flat_map-append numbers_in es (e ∷ []) ∙ ap (λ ns. numbers_of es ++ ns) (append-nil (numbers_in e))
+    flat_map-append numbers_in es (e ∷ [])
+    ∙ ap (λ ns. numbers_of es ++ ns) (append-nil (numbers_in e))
 
--- one document more
+-- numbers of a document at the end are read as that document
 pub lists_of-append :
     (ns : List ℕ) (e : ℕ × List ℕ) → HoldPostings ns
     → lists_of (ns ++ numbers_in e) ≡ lists_of ns ++ e ∷ []
@@ -44,6 +46,7 @@ lists_of-append ns e holds =
     ∙ ap lists_of (sym (numbers_of-append es e))
     ∙ lists_of-numbers (es ++ e ∷ [])
 
+-- and they are again numbers of postings
 pub HoldPostings-append :
     (ns : List ℕ) (document : ℕ) (positions : List ℕ) → HoldPostings ns
     → last_document (lists_of ns) < document → ArePositions positions
@@ -77,7 +80,8 @@ pub lists_of-first :
 lists_of-first [] positions rest some front back = absurd (omega (arith, some))
 lists_of-first (document ∷ []) positions rest some front back = absurd (omega (arith, some))
 lists_of-first (document ∷ count ∷ ns) positions rest some front back =
-    let front_is : positions ≡ take count ns = front ∙ ap (take count) (tail-is document count ns) in
+    let front_is : positions ≡ take count ns =
+    front ∙ ap (take count) (tail-is document count ns) in
     let back_is : rest ≡ drop count ns = back ∙ ap (drop count) (tail-is document count ns) in
     rw (front_is, back_is) (ap (λ es. (document, take count ns) ∷ es) (lists_after-drop count ns))
 

@@ -8,10 +8,11 @@ ghost use Rattle.postings.specs.Numbers.{lists_of, HoldPostings};
 
 use ss_base::OutOfMemory;
 use std::alloc::Global;
+use std::fmt;
 use std::marker::Model;
 
 /// The documents that hold a term, rising, each with its positions, rising. Both count from 1.
-#[derive(Drop, Debug)]
+#[derive(Drop)]
 pub struct Postings {
     // document by document its number, how many positions it has, and those positions
     numbers: Vec<u32>,
@@ -112,6 +113,13 @@ impl Postings {
         ensures { result ≡ length self.now }
     {
         u64::from(self.documents)
+    }
+}
+
+// Shown as the pairs of document and position.
+impl fmt::Debug for Postings {
+    fn fmt<W: fmt::Write>(&self, f: &mut fmt::Formatter<W>) -> fmt::Result {
+        f.debug_list().entries(self.iter()).finish()
     }
 }
 

@@ -1,4 +1,4 @@
-// What no clause says: that memory is found.
+// What no clause says: that memory is found, and how postings are shown.
 use crate::Postings;
 use std::test::Fail;
 
@@ -13,5 +13,7 @@ fn postings_come_back_in_order(rt: HostRuntime) -> Result<(), Fail> {
         assert_eq!(rt; pairs.as_slice(), [(1, 1), (1, 3), (4, 2)].as_slice());
     }
     assert_eq!(rt; postings.documents(), 2);
+    let shown = format!(in alloc; "{postings:?}")?;
+    assert_eq!(rt; shown.as_str(), "[(1, 1), (1, 3), (4, 2)]");
     Ok(())
 }

@@ -1,4 +1,5 @@
-use Rattle.std.proofs.Common.{ℕ, ◌≡◌, ◌<◌, ◌≤◌, ◌+◌, ◌^◌, ◌∙◌, List, ◌++◌, [], ◌∷◌, length, arith, ap}
+use Rattle.std.proofs.Common.{ℕ, ◌≡◌, ◌<◌, ◌≤◌, ◌+◌, ◌^◌, ◌∙◌, List, ◌++◌, [], ◌∷◌}
+use Rattle.std.proofs.Common.{length, arith, ap}
 use Rattle.std.proofs.lemmas.List.{length-append}
 use Rattle.index_definitions.specs.PostingLists.{last_document}
 use Rattle.postings.specs.Numbers.{lists_of}
