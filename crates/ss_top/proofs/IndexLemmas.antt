@@ -30,11 +30,13 @@ pub Stops-none : Stops [] []
 Stops-none = λ term. sym (ap (λ terms. list_any (bytes_eq term) terms) terms_in-none)
 
 pub IsStopList-none :
-    (contents : Option Contents) (stop : Option (List ℕ)) → stop ≡ None → IsStopList contents stop []
+    (contents : Option Contents) (stop : Option (List ℕ))
+    → stop ≡ None → IsStopList contents stop []
 IsStopList-none None stop none = tt
 IsStopList-none (Some told) stop none = ap (stop_list told) none
 
-pub IsSome-name_at : (names : List (List ℕ)) (i : ℕ) → i < length names → IsSome (name_at names (i + 1))
+pub IsSome-name_at :
+    (names : List (List ℕ)) (i : ℕ) → i < length names → IsSome (name_at names (i + 1))
 IsSome-name_at names i within =
     let behind : (i + 1 == 0) ≡ false = grind arith in
     let place : i + 1 - 1 ≡ i = omega arith in
@@ -54,7 +56,8 @@ documents_held-found told name names document found =
 documents_held-append :
     (told : Contents) (names others : List (List ℕ))
     → length (documents_held told names) ≡ length names
-    → documents_held told (names ++ others) ≡ documents_held told names ++ documents_held told others
+    → documents_held told (names ++ others)
+    ≡ documents_held told names ++ documents_held told others
 documents_held-append told [] others all = refl
 documents_held-append told (name ∷ names) others all =
     elim (told name) as (λ o.

@@ -1,5 +1,5 @@
 -- What is read of the inputs of a command?
-use Rattle.std.specs.Prelude.{◌≡◌, ℕ, ◌≤◌, ◌<◌, List, [], length, Some, None}
+use Rattle.std.specs.Prelude.{◌≡◌, ℕ, ◌≤◌, ◌<◌, List, [], length, Some}
 use Rattle.std.specs.declared.option.Option.{Option}
 use Rattle.ss_base.specs.Shelves.{Contents}
 use Rattle.ss_top.specs.declared.commands.Stop.{Stop}

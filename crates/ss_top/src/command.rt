@@ -111,7 +111,8 @@ fn text_of(alloc: Global, word: Option<&str>) -> Result<Option<Text>, OutOfMemor
 
 // `index`, by the words behind it.
 fn index_command(alloc: Global, words: &[String]) -> Result<Command, WordsFault>
-    ensures ok { IfOk result (λ command. index_command (map string_bytes words.now) ≡ Some command) }
+    ensures ok { IfOk result (λ command.
+        index_command (map string_bytes words.now) ≡ Some command) }
     ensures usage { (result ≡ Err WordsFault.Usage)
         ↔ (index_command (map string_bytes words.now) ≡ None) }
     ensures asked { IfOk result CanBeAsked }
@@ -128,7 +129,8 @@ fn index_command(alloc: Global, words: &[String]) -> Result<Command, WordsFault>
 
 // `script`, by the words behind it.
 fn script_command(alloc: Global, words: &[String]) -> Result<Command, WordsFault>
-    ensures ok { IfOk result (λ command. script_command (map string_bytes words.now) ≡ Some command) }
+    ensures ok { IfOk result (λ command.
+        script_command (map string_bytes words.now) ≡ Some command) }
     ensures usage { (result ≡ Err WordsFault.Usage)
         ↔ (script_command (map string_bytes words.now) ≡ None) }
     ensures asked { IfOk result CanBeAsked }
@@ -194,7 +196,8 @@ fn gen_command(words: &[String]) -> Option<Command>
 /// The command that the words after the program's name are.
 pub fn command_of(alloc: Global, words: &[String]) -> Result<Command, WordsFault>
     ensures ok { IfOk result (λ command. outcome (map string_bytes words.now) ≡ Some command) }
-    ensures usage { (result ≡ Err WordsFault.Usage) ↔ (outcome (map string_bytes words.now) ≡ None) }
+    ensures usage { (result ≡ Err WordsFault.Usage)
+        ↔ (outcome (map string_bytes words.now) ≡ None) }
     ensures asked { IfOk result CanBeAsked }
 {
     let Some((name, words)) = words.split_first() else {

@@ -5,7 +5,10 @@ ghost use Rattle.std.specs.Prelude.{◌<◌};
 use crate::{GenFault, LimitHit, Status, Which, gen_documents, run, tell_memory, tell_usage};
 use ss_base::{MemShelf, MemSink, Text};
 use std::alloc::Global;
+use std::process::Abort;
+use std::sync::Wait;
 use std::test::Fail;
+use std::thread::Threads;
 
 const USAGE: &str =
     "usage: ssidx index [--delegates N] [--mode lanes|batch] [--ring N] [--stop FILE] NAME...
@@ -111,16 +114,33 @@ fn a_character_may_stand_across_two_reads(rt: HostRuntime) -> Result<(), Fail> {
 #[test]
 fn what_is_no_command_is_usage(rt: HostRuntime) -> Result<(), Fail> {
     let alloc = rt.alloc();
-    let lines: [&[&str]; 9] = [
+    let lines: [&[&str]; 26] = [
         &[],
         &["index"],
-        &["index", "a"],
-        &["index", "-", "-"],
+        &["index", ""],
+        &["index", "-x"],
+        &["index", "a", "-x"],
+        &["index", "a", "--stop", "s"],
+        &["index", "--stop"],
+        &["index", "--stop", "s"],
+        &["index", "--stop", "-s", "a"],
+        &["index", "--stop", "", "a"],
         &["script"],
         &["script", ""],
         &["script", "-s"],
         &["script", "s", "s"],
         &["Script", "s"],
+        &["gen"],
+        &["gen", "1", "1"],
+        &["gen", "1", "1", "1", "1"],
+        &["gen", "0", "1", "1"],
+        &["gen", "4294967296", "1", "1"],
+        &["gen", "1", "4294967296", "1"],
+        &["gen", "1", "1", "2147483648"],
+        &["gen", "1", "1", "00000000001"],
+        &["gen", "1", "+1", "1"],
+        &["gen", "1", "", "1"],
+        &["gen", "1", "-1", "1"],
     ];
     for line in lines {
         let words = words_of(alloc, line)?;
@@ -134,6 +154,239 @@ fn what_is_no_command_is_usage(rt: HostRuntime) -> Result<(), Fail> {
         assert_eq!(rt; err.bytes(), USAGE.as_bytes());
     }
     Ok(())
+}
+
+// A run over files in memory, and what it ends with and writes.
+struct Case {
+    words: &'static [&'static str],
+    files: &'static [(&'static str, &'static [u8])],
+    status: Status,
+    out: &'static str,
+    err: &'static str,
+}
+
+const CASES: [Case; 15] = [
+    Case {
+        words: &["index", "p", "q"],
+        files: &[("p", b"b a"), ("q", b"a")],
+        status: Status::Done,
+        out: "documents 2\nwords 3\nlongest 1\nterms 2\na 2 1:2;2:1\nb 1 1:1\n",
+        err: "",
+    },
+    // An empty document counts, also where it is the last.
+    Case {
+        words: &["index", "p", "q"],
+        files: &[("p", b"a"), ("q", b"")],
+        status: Status::Done,
+        out: "documents 2\nwords 1\nlongest 1\nterms 1\na 1 1:1\n",
+        err: "",
+    },
+    // A name that stands twice is read twice.
+    Case {
+        words: &["index", "-", "p", "-"],
+        files: &[("-", b"a"), ("p", b"b")],
+        status: Status::Done,
+        out: "documents 3\nwords 3\nlongest 1\nterms 2\na 2 1:1;3:1\nb 1 2:1\n",
+        err: "",
+    },
+    Case {
+        words: &["index", "--stop", "s", "d"],
+        files: &[("s", b"The"), ("d", b"the cat the")],
+        status: Status::Done,
+        out: "documents 1\nwords 1\nlongest 3\nterms 1\ncat 1 1:2\n",
+        err: "",
+    },
+    Case {
+        words: &["index", "a", "b", "c"],
+        files: &[("a", b"x"), ("c", b"z")],
+        status: Status::ReadFault(Which::Name(2)),
+        out: "",
+        err: "ssidx: cannot read b\n",
+    },
+    // The stop list is opened first.
+    Case {
+        words: &["index", "--stop", "s", "a"],
+        files: &[],
+        status: Status::ReadFault(Which::Stop),
+        out: "",
+        err: "ssidx: cannot read s\n",
+    },
+    Case {
+        words: &["gen", "1", "3", "0"],
+        files: &[],
+        status: Status::Done,
+        out: "documents 1\nwords 3\nterms 3\npositions 6\n",
+        err: "",
+    },
+    // Numbers may begin with zeros, and positions count from 1 in each document.
+    Case {
+        words: &["gen", "0000000003", "01", "0000000000"],
+        files: &[],
+        status: Status::Done,
+        out: "documents 3\nwords 3\nterms 3\npositions 3\n",
+        err: "",
+    },
+    Case {
+        words: &["gen", "2", "0", "2147483647"],
+        files: &[],
+        status: Status::Done,
+        out: "documents 2\nwords 0\nterms 0\npositions 0\n",
+        err: "",
+    },
+    // There are 1,000 different words, and another program found all of them in these documents.
+    Case {
+        words: &["gen", "64", "1000", "1"],
+        files: &[],
+        status: Status::Done,
+        out: "documents 64\nwords 64000\nterms 1000\npositions 32032000\n",
+        err: "",
+    },
+    Case {
+        words: &["gen", "65537", "1", "0"],
+        files: &[],
+        status: Status::Limit(LimitHit::Names(65537)),
+        out: "",
+        err: "ssidx: limit: 65537 names are over 65536\n",
+    },
+    Case {
+        words: &["gen", "4294967295", "4294967295", "0"],
+        files: &[],
+        status: Status::Limit(LimitHit::Names(4294967295)),
+        out: "",
+        err: "ssidx: limit: 4294967295 names are over 65536\n",
+    },
+    Case {
+        words: &["gen", "1", "4294967295", "0"],
+        files: &[],
+        status: Status::Limit(LimitHit::Document(1)),
+        out: "",
+        err: "ssidx: limit: document 1 is over 8388608 bytes\n",
+    },
+    Case {
+        words: &["gen", "17", "857738", "1223930612"],
+        files: &[],
+        status: Status::Limit(LimitHit::AllDocuments(17)),
+        out: "",
+        err: "ssidx: limit: documents to 17 are over 67108864 bytes\n",
+    },
+    // The limits of the documents are met after the number of documents alone.
+    Case {
+        words: &["gen", "65536", "4294967295", "0"],
+        files: &[],
+        status: Status::Limit(LimitHit::Document(1)),
+        out: "",
+        err: "ssidx: limit: document 1 is over 8388608 bytes\n",
+    },
+];
+
+// Runs these words over these files, and compares what it ends with and writes.
+fn check_run<R>(
+    rt: R,
+    alloc: Global,
+    words: &[String],
+    files: Vec<(Text, Vec<u8>)>,
+    wanted: (Status, &str, &str),
+) -> Result<(), Fail>
+where
+    R: Abort + Threads + Wait + Copy + Send + Sync + 'static,
+{
+    let mut shelf = MemShelf::new(files, Vec::new(alloc), 4096);
+    let mut out = sink(alloc)?;
+    let mut err = sink(alloc)?;
+    let status = run(&rt, alloc, words, &mut shelf, &mut out, &mut err);
+    let (ends, printed, told) = wanted;
+    assert_eq!(rt; status, ends, "at {told}");
+    assert_eq!(rt; out.bytes(), printed.as_bytes(), "at {told}");
+    assert_eq!(rt; err.bytes(), told.as_bytes(), "at {told}");
+    Ok(())
+}
+
+#[test]
+fn documents_are_indexed_in_the_order_of_their_names(rt: HostRuntime) -> Result<(), Fail> {
+    let alloc = rt.alloc();
+    for case in &CASES {
+        let words = words_of(alloc, case.words)?;
+        let mut files = Vec::new(alloc);
+        for (name, bytes) in case.files {
+            files.push((Text::of(alloc, name)?, bytes.to_vec(alloc)?))?;
+        }
+        check_run(rt, alloc, &words, files, (case.status, case.out, case.err))?;
+    }
+    Ok(())
+}
+
+// A file of so many spaces.
+fn spaces(alloc: Global, name: &str, count: usize) -> Result<Vec<(Text, Vec<u8>)>, Fail> {
+    let mut files = Vec::new(alloc);
+    files.push((Text::of(alloc, name)?, vec![in alloc; b' '; count]?))?;
+    Ok(files)
+}
+
+#[test]
+fn a_document_may_have_so_many_bytes(rt: HostRuntime) -> Result<(), Fail> {
+    let alloc = rt.alloc();
+    let nothing = "documents 1\nwords 0\nlongest 0\nterms 0\n";
+    let words = words_of(alloc, &["index", "d"])?;
+    let files = spaces(alloc, "d", 8388608)?;
+    check_run(rt, alloc, &words, files, (Status::Done, nothing, ""))?;
+
+    let files = spaces(alloc, "d", 8388609)?;
+    let ends = Status::Limit(LimitHit::Document(1));
+    let told = "ssidx: limit: document 1 is over 8388608 bytes: d\n";
+    check_run(rt, alloc, &words, files, (ends, "", told))
+}
+
+#[test]
+fn all_documents_may_have_so_many_bytes(rt: HostRuntime) -> Result<(), Fail> {
+    let alloc = rt.alloc();
+    let eight = ["index", "d", "d", "d", "d", "d", "d", "d", "d"];
+    let nothing = "documents 8\nwords 0\nlongest 0\nterms 0\n";
+    let words = words_of(alloc, &eight)?;
+    let files = spaces(alloc, "d", 8388608)?;
+    check_run(rt, alloc, &words, files, (Status::Done, nothing, ""))?;
+
+    // The ninth document passes the limit at its first byte, and the tenth isn't asked for.
+    let mut words = words_of(alloc, &eight)?;
+    words.push(String::from_str(alloc, "d")?)?;
+    words.push(String::from_str(alloc, "e")?)?;
+    let files = spaces(alloc, "d", 8388608)?;
+    let ends = Status::Limit(LimitHit::AllDocuments(9));
+    let told = "ssidx: limit: documents to 9 are over 67108864 bytes\n";
+    check_run(rt, alloc, &words, files, (ends, "", told))
+}
+
+#[test]
+fn a_stop_list_may_have_so_many_bytes(rt: HostRuntime) -> Result<(), Fail> {
+    let alloc = rt.alloc();
+    let words = words_of(alloc, &["index", "--stop", "s", "d"])?;
+    let mut files = spaces(alloc, "s", 8388608)?;
+    files.push((Text::of(alloc, "d")?, b"d".to_vec(alloc)?))?;
+    let printed = "documents 1\nwords 1\nlongest 1\nterms 1\nd 1 1:1\n";
+    check_run(rt, alloc, &words, files, (Status::Done, printed, ""))?;
+
+    // The document isn't there, which is not found out.
+    let files = spaces(alloc, "s", 8388609)?;
+    let ends = Status::Limit(LimitHit::StopBytes);
+    let told = "ssidx: limit: stop list is over 8388608 bytes\n";
+    check_run(rt, alloc, &words, files, (ends, "", told))
+}
+
+#[test]
+fn so_many_documents_may_be_named(rt: HostRuntime) -> Result<(), Fail> {
+    let alloc = rt.alloc();
+    let mut words = words_of(alloc, &["index"])?;
+    for _ in 0..65536u32 {
+        words.push(String::from_str(alloc, "d")?)?;
+    }
+    let files = spaces(alloc, "d", 0)?;
+    let nothing = "documents 65536\nwords 0\nlongest 0\nterms 0\n";
+    check_run(rt, alloc, &words, files, (Status::Done, nothing, ""))?;
+
+    words.push(String::from_str(alloc, "d")?)?;
+    let files = spaces(alloc, "d", 0)?;
+    let ends = Status::Limit(LimitHit::Names(65537));
+    let told = "ssidx: limit: 65537 names are over 65536\n";
+    check_run(rt, alloc, &words, files, (ends, "", told))
 }
 
 #[test]
@@ -168,22 +421,6 @@ fn a_failing_write_leaves_what_was_written(rt: HostRuntime) -> Result<(), Fail> 
     assert_eq!(rt; status, Status::WriteFault);
     assert_eq!(rt; out.bytes(), b"document".as_slice());
     assert_eq!(rt; err.bytes(), b"ssidx: cannot write\n".as_slice());
-    Ok(())
-}
-
-#[test]
-fn a_document_over_the_limit_is_named(rt: HostRuntime) -> Result<(), Fail> {
-    let alloc = rt.alloc();
-    let words = words_of(alloc, &["index", "-"])?;
-    let document = vec![in alloc; b' '; 8388609]?;
-    let mut shelf = shelf_of(alloc, document, &[], 4096)?;
-    let mut out = sink(alloc)?;
-    let mut err = sink(alloc)?;
-    let status = run(&rt, alloc, &words, &mut shelf, &mut out, &mut err);
-    assert_eq!(rt; status, Status::Limit(LimitHit::Document(1)));
-    assert_eq!(rt; out.bytes(), b"".as_slice());
-    let text = b"ssidx: limit: document 1 is over 8388608 bytes: -\n".as_slice();
-    assert_eq!(rt; err.bytes(), text);
     Ok(())
 }
 

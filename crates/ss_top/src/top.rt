@@ -84,7 +84,8 @@ where
     ensures meets { IfTold (L.contents shelf.old) (λ contents.
         Meets (answer_to (Some command.now) contents) result.status
         (K.gained out.old) (K.gained out.new) (left_of (Some command.now) (L.left shelf.new))) }
-    ensures quiet { has_written result.status ≡ false → Keeps (K.gained out.old) (K.gained out.new) }
+    ensures quiet { has_written result.status ≡ false →
+        Keeps (K.gained out.old) (K.gained out.new) }
     ensures complete { IfTold (L.contents shelf.old) (λ contents.
         Completes (answer_to (Some command.now) contents) result.status
         (Rose (L.faults shelf.old) (L.faults shelf.new))
@@ -102,8 +103,8 @@ where
 /// Does what the words after the program's name ask for, and says how that ended.
 ///
 /// The text is built whole, then written to `out`; so on each status but `Done`, `WriteFault` and
-/// `Refused` `out` gains nothing. A write fault comes before a script's refusal. On every status but `Done` a text goes to `err`, and no status
-/// depends on whether that could be written.
+/// `Refused` `out` gains nothing. A write fault comes before a script's refusal. On every status but
+/// `Done` a text goes to `err`, and no status depends on whether that could be written.
 pub fn run<R, L: Shelf, K: Sink, E: Sink>(
     rt: &R,
     alloc: Global,

@@ -1,4 +1,4 @@
-use Rattle.std.proofs.Common.{◌≡◌, sym, ◌∙◌, arith}
+use Rattle.std.proofs.Common.{sym, ◌∙◌, arith}
 use Rattle.ss_top.proofs.CommandLineLemmas.{number_in-within}
 use Rattle.ss_top.proofs.command.gen_command.Goals as goal
 

@@ -20,7 +20,8 @@ returns-in_err-number c =
     let over =
     over_bits c.parse.result _ _ c.args.most (sym c.in_err-number.ensures.variant) parsed digits.0
     (omega (arith, c.ranges.most.fits)) in
-    c.from_residual.ensures ∙ sym (number_in-over c.args.least c.args.most c.args.word.now numeral over)
+    c.from_residual.ensures
+    ∙ sym (number_in-over c.args.least c.args.most c.args.word.now numeral over)
 
 pub returns : goal.returns
 returns c =
@@ -30,8 +31,8 @@ returns c =
     parse_digits (numerals_by_value _ tells_all_ascii_digits) 32 c.args.word.now c.parse.result
     c.parse.ensures.value.0 digits.1 in
     let value =
-    parsed_value c.parse.result _ _ c.in_ok-number.number (sym c.ok.ensures.value ∙ c.in_ok-number.was)
-    parsed in
+    parsed_value c.parse.result _ _ c.in_ok-number.number
+    (sym c.ok.ensures.value ∙ c.in_ok-number.was) parsed in
     let tested =
     c.is_within.ensures ∙ ap (λ n. nat_le c.args.least n && nat_le n c.args.most) value in
     c.then_some.ensures ∙ then_some_is c.is_within.result c.in_ok-number.number

@@ -1,4 +1,4 @@
-use Rattle.std.proofs.Common.{◌≡◌, ◌≤◌, [], sym, ap, ◌∙◌, subst, arith, Some, length}
+use Rattle.std.proofs.Common.{[], sym, ap, ◌∙◌, subst, arith, Some, length}
 use Rattle.std.proofs.lemmas.List.{length-map}
 use Rattle.index_definitions.specs.Index.{index}
 use Rattle.indexer.specs.Builds.{Stops}

@@ -27,7 +27,8 @@ returns-in_err-document-clause-limit g c =
     let longer =
     subst (λ name. IsLonger (g.L.Shelf.contents c.args.shelf.now) name most)
     (c.as_str.ensures ∙ c.name-item.is)
-    (subst (λ contents. IsLonger contents c.as_str.result.now most) before.invariant.contents limit.1) in
+    (subst (λ contents. IsLonger contents c.as_str.result.now most) before.invariant.contents
+    limit.1) in
     PassFirst-longer c.args.names.now before.name-index c.name-item.result c.loop-name-test.true
     documents count (g.L.Shelf.contents c.args.shelf.now) before.left hit before.invariant.left
     before.invariant.within before.invariant.documents longer
@@ -38,28 +39,30 @@ loop-name-preserved g c =
     let before = c.loop-name in
     let contents = g.L.Shelf.contents c.args.shelf.now in
     let names = c.args.names.now in
+    let left = g.L.Shelf.left c.read_document.new.shelf in
     let document = c.in_ok-document.document in
     let documents = map (λ d. d.items) before.documents.items in
     let items = c.in_ok-push.ensures.items in
     let more : map (λ d. d.items) c.push.new.self.items ≡ documents ++ document.items ∷ [] =
-    ap (map (λ d. d.items)) items ∙ map-append (λ d. d.items) before.documents.items (document ∷ []) in
+    ap (map (λ d. d.items)) items
+    ∙ map-append (λ d. d.items) before.documents.items (document ∷ []) in
     let count : length documents ≡ before.name-index =
     length-map before.documents.items (λ d. d.items) ∙ before.invariant.count in
     let fits : length document.items ≤ min before.left document_limit =
     omega (arith, c.in_ok-document.ensures.within, document.ok.0) in
     let whole =
-    subst (λ name. ReadsWhole contents name (g.L.Shelf.left c.read_document.new.shelf) document.items)
-    (c.as_str.ensures ∙ c.name-item.is)
-    (subst (λ told. ReadsWhole told c.as_str.result.now (g.L.Shelf.left c.read_document.new.shelf)
-    document.items) before.invariant.contents c.in_ok-document.ensures.whole) in
+    subst (λ name. ReadsWhole contents name left document.items) (c.as_str.ensures ∙ c.name-item.is)
+    (subst (λ told. ReadsWhole told c.as_str.result.now left document.items)
+    before.invariant.contents c.in_ok-document.ensures.whole) in
     record {
-      never_falls = omega (arith, before.invariant.never_falls, c.in_ok-document.ensures.never_falls);
+      never_falls =
+          omega (arith, before.invariant.never_falls, c.in_ok-document.ensures.never_falls);
       contents = c.in_ok-document.ensures.contents ∙ before.invariant.contents;
       number = omega (arith, before.invariant.number);
       count =
           omega (
             arith,
-            ap length items,
+            ap length {y = before.documents.items ++ document ∷ []} items,
             length-append before.documents.items (document ∷ []),
             before.invariant.count,
           );
@@ -80,10 +83,8 @@ loop-name-preserved g c =
       documents =
           subst (AreDocuments contents (take (before.name-index + 1) names)) (sym more)
           (AreDocuments-more names before.name-index c.name-item.result c.loop-name-test.true
-          documents count contents (g.L.Shelf.left c.read_document.new.shelf) document.items
-          before.invariant.documents whole);
+          documents count contents left document.items before.invariant.documents whole);
       at_end =
           IsReadToItsEnd-whole contents (get_or names before.name-index c.name-item.result)
-          (take (before.name-index + 1) names) (g.L.Shelf.left c.read_document.new.shelf)
-          document.items whole;
+          (take (before.name-index + 1) names) left document.items whole;
     }
