@@ -1,13 +1,14 @@
 // A table of counts by text, behind a contract that says nothing of how it is kept.
 ghost use Rattle.std.specs.Prelude.{◌≡◌, [], ◌∷◌, ◌++◌, None, IfOk, OnOk, OnErr};
 ghost use Rattle.std.specs.FinMap as finite;
+ghost use Rattle.text_table.specs.Tags.{tag_of};
 ghost use Rattle.text_table.specs.TextTables.{number_of};
 ghost use Rattle.class_laws.specs.Counts.{count_of, counts_after_add, counts_join};
 
 use ss_base::OutOfMemory;
 use std::alloc::Global;
 use std::marker::Model;
-use text_table::TextTable;
+use text_table::{Absent, TextTable};
 
 /// A finite map from texts to counts: each text's count stands at the text's number.
 #[derive(Drop)]
@@ -36,17 +37,19 @@ impl Model for CountTable {
 fn push_both(
     texts: &mut TextTable,
     counts: &mut Vec<u64>,
+    absent: Absent,
     text: &str,
     count: u64,
 ) -> Result<(), OutOfMemory>
-    requires { number_of texts.old text.now ≡ None }
+    requires absent { absent ≡ tag_of text.now }
+    requires new_text { number_of texts.old text.now ≡ None }
     ensures texts { OnOk result (texts.new ≡ texts.old ++ text.now ∷ []) }
     ensures counts { OnOk result (counts.new.items ≡ counts.old.items ++ count ∷ []) }
     ensures same_texts { OnErr result (texts.new ≡ texts.old) }
     ensures same_counts { OnErr result (counts.new.items ≡ counts.old.items) }
 {
     counts.push(count)?;
-    if let Err(error) = texts.insert(text) {
+    if let Err(error) = texts.insert_absent(absent, text) {
         counts.pop();
         return Err(error);
     }
@@ -89,13 +92,17 @@ impl CountTable {
         ensures err { OnErr result (self.new ≡ self.old) }
         ensures new_key { OnErr result (finite.get self.old key.now ≡ None) }
     {
-        let Some(number) = self.texts.number_of(key) else {
-            push_both(&mut self.texts, &mut self.counts, key, by)?;
-            return Ok(());
-        };
-        let count = self.counts[number as usize];
-        self.counts[number as usize] = count.wrapping_add(by);
-        Ok(())
+        match self.texts.look_up(key) {
+            Ok(number) => {
+                let count = self.counts[number as usize];
+                self.counts[number as usize] = count.wrapping_add(by);
+                Ok(())
+            }
+            Err(absent) => {
+                push_both(&mut self.texts, &mut self.counts, absent, key, by)?;
+                Ok(())
+            }
+        }
     }
 
     /// Joins the counts of `other` into this table. After an `OutOfMemory` nothing is said of this

@@ -20,13 +20,11 @@ fn number_of_word(stop: &StopSet, terms: &mut TextTable, term: &str) -> Result<u
         ((0 < number) × (slice_get terms.new (number - 1) ≡ Some term.now)
         × (terms.new ≡ with_text terms.old term.now))) }
 {
-    if let Some(number) = terms.number_of(term) {
-        return Ok(number + 1);
+    match terms.look_up(term) {
+        Ok(number) => Ok(number + 1),
+        Err(_) if stop.contains(term) => Ok(0),
+        Err(absent) => Ok(terms.insert_absent(absent, term)? + 1),
     }
-    if stop.contains(term) {
-        return Ok(0);
-    }
-    Ok(terms.insert(term)? + 1)
 }
 
 // The distinct counted terms of a document, and the numbers of its words. The text that the bytes

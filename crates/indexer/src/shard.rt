@@ -4,6 +4,7 @@ ghost use Rattle.std.specs.Prelude.{OnOk, OnErr, MatchOption};
 ghost use Rattle.std.specs.FinMap as finite;
 ghost use Rattle.std.specs.List.{slice_index_or, slice_set};
 ghost use Rattle.index_definitions.specs.PostingLists.{ArePositions, last_document};
+ghost use Rattle.text_table.specs.Tags.{tag_of};
 ghost use Rattle.text_table.specs.TextTables.{number_of};
 ghost use Rattle.indexer.specs.Collected.{AppendsTermsOfShard};
 ghost use Rattle.indexer.specs.ShardTables.{ArePaired, places_from, last_of};
@@ -17,7 +18,7 @@ use postings::Postings;
 use ss_base::{OutOfMemory, Text};
 use std::alloc::Global;
 use std::marker::Model;
-use text_table::TextTable;
+use text_table::{Absent, TextTable};
 
 /// A shard. Contracts see its number, and the finite map from its terms to their documents, each
 /// with its positions.
@@ -67,17 +68,19 @@ fn append_at(
 fn push_both(
     terms: &mut TextTable,
     lists: &mut Vec<Postings>,
+    absent: Absent,
     term: &str,
     list: Postings,
 ) -> Result<(), OutOfMemory>
-    requires { number_of terms.old term.now ≡ None }
+    requires absent { absent ≡ tag_of term.now }
+    requires new_term { number_of terms.old term.now ≡ None }
     ensures terms { OnOk result (terms.new ≡ terms.old ++ term.now ∷ []) }
     ensures lists { OnOk result (lists.new.items ≡ lists.old.items ++ list ∷ []) }
     ensures same_terms { OnErr result (terms.new ≡ terms.old) }
     ensures same_lists { OnErr result (lists.new.items ≡ lists.old.items) }
 {
     lists.push(list)?;
-    if let Err(error) = terms.insert(term) {
+    if let Err(error) = terms.insert_absent(absent, term) {
         lists.pop();
         return Err(error);
     }
@@ -102,13 +105,15 @@ fn append_place(
     ensures last { OnOk result (last_of lists.new.items ≡ max (last_of lists.old.items) doc) }
     ensures same_last { OnErr result (last_of lists.new.items ≡ last_of lists.old.items) }
 {
-    let Some(number) = terms.number_of(term) else {
-        let mut list = Postings::new(*lists.allocator());
-        list.append(doc, positions)?;
-        push_both(terms, lists, term, list)?;
-        return Ok(());
-    };
-    append_at(lists, number as usize, doc, positions)
+    match terms.look_up(term) {
+        Ok(number) => append_at(lists, number as usize, doc, positions),
+        Err(absent) => {
+            let mut list = Postings::new(*lists.allocator());
+            list.append(doc, positions)?;
+            push_both(terms, lists, absent, term, list)?;
+            Ok(())
+        }
+    }
 }
 
 // The greater of two documents.

@@ -7,7 +7,7 @@ mod buckets;
 mod table;
 mod tag;
 
-pub use table::TextTable;
+pub use table::{Absent, TextTable};
 
 #[cfg(test)]
 mod tests;

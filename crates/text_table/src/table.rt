@@ -1,6 +1,7 @@
 // The table of texts.
 ghost use Rattle.std.specs.Prelude.{◌≡◌, ◌↔◌, ℕ, [], ◌<◌, length, Some, None, IfOk, OnOk, OnErr};
-ghost use Rattle.std.specs.Prelude.{MatchOption, unwrap_or, List, ◌++◌, ◌∷◌, ◌≢◌, if◌then◌else◌};
+ghost use Rattle.std.specs.Prelude.{MatchOption, IfErr, unwrap_or, List, ◌++◌, ◌∷◌, ◌≢◌};
+ghost use Rattle.std.specs.Prelude.{if◌then◌else◌};
 ghost use Rattle.std.specs.BTreeMap.{get_by_text, IsUnchanged};
 ghost use Rattle.std.specs.Str.{bytes_eq};
 ghost use Rattle.std.specs.List.{slice_get, All};
@@ -13,6 +14,20 @@ use ss_base::OutOfMemory;
 use std::alloc::Global;
 use std::collections::BTreeMap;
 use std::marker::Model;
+
+/// What a look-up gives for a text that has no number: the text's tag. Contracts see the tag.
+#[derive(Drop)]
+pub struct Absent {
+    tag: u32,
+}
+
+impl Model for Absent {
+    ghost use Rattle.std.specs.Prelude.{ℕ};
+
+    ghost Value = { ℕ };
+
+    ghost view = { λ absent. absent.tag };
+}
 
 /// Distinct texts with the numbers 0, 1, 2, .. in the order in which they first came. Contracts see
 /// the list of the texts.
@@ -108,6 +123,20 @@ impl TextTable {
         self.find(tag_of_text(text), text)
     }
 
+    /// The number of a text, or else what `insert_absent` needs to add it without hashing it again.
+    /// It takes no memory.
+    pub fn look_up(&self, text: &str) -> Result<u32, Absent>
+        ensures number { IfOk result (λ number. number_of self.now text.now ≡ Some number) }
+        ensures absent { IfErr result (λ absent. absent ≡ tag_of text.now) }
+        ensures new_text { OnErr result (number_of self.now text.now ≡ None) }
+    {
+        let tag = tag_of_text(text);
+        match self.find(tag, text) {
+            Some(number) => Ok(number),
+            None => Err(Absent { tag }),
+        }
+    }
+
     fn find(&self, tag: u32, text: &str) -> Option<u32>
         requires { tag ≡ tag_of text.now }
         ensures { result ≡ number_of self.now text.now }
@@ -128,16 +157,16 @@ impl TextTable {
         ensures err { OnErr result (self.new ≡ self.old) }
         ensures new_text { OnErr result (number_of self.old text.now ≡ None) }
     {
-        let tag = tag_of_text(text);
-        match self.find(tag, text) {
-            Some(number) => Ok(number),
-            None => self.push(tag, text),
+        match self.look_up(text) {
+            Ok(number) => Ok(number),
+            Err(absent) => self.insert_absent(absent, text),
         }
     }
 
-    // Adds a text that is not there.
-    fn push(&mut self, tag: u32, text: &str) -> Result<u32, OutOfMemory>
-        requires tag { tag ≡ tag_of text.now }
+    /// Adds a text that `look_up` didn't find, and gives its number, which is the next one. An
+    /// `OutOfMemory` changes nothing, and comes as from `insert`.
+    pub fn insert_absent(&mut self, absent: Absent, text: &str) -> Result<u32, OutOfMemory>
+        requires absent { absent ≡ tag_of text.now }
         requires new_text { number_of self.old text.now ≡ None }
         ensures number { IfOk result (λ number. number ≡ length self.old) }
         ensures ok { OnOk result (self.new ≡ self.old ++ text.now ∷ []) }
@@ -146,7 +175,7 @@ impl TextTable {
         self.make_room()?;
         let number = self.texts.len();
         self.texts.push(text)?;
-        if !self.buckets.put(tag, number) {
+        if !self.buckets.put(absent.tag, number) {
             if let Err(error) = put_over(self.alloc, &mut self.overflow, text, number) {
                 self.texts.drop_last();
                 return Err(error);

@@ -30,6 +30,20 @@ fn texts_are_numbered_as_they_first_come(rt: HostRuntime) -> Result<(), Fail> {
 }
 
 #[test]
+fn a_text_that_is_absent_is_added(rt: HostRuntime) -> Result<(), Fail> {
+    let mut table = TextTable::new(rt.alloc());
+    for (text, number) in &INSERTED {
+        let found = match table.look_up(text) {
+            Ok(found) => found,
+            Err(absent) => table.insert_absent(absent, text)?,
+        };
+        assert_eq!(rt; found, *number);
+    }
+    assert_eq!(rt; table.len(), 6);
+    Ok(())
+}
+
+#[test]
 fn a_copy_stays_as_it_is(rt: HostRuntime) -> Result<(), Fail> {
     let mut table = TextTable::new(rt.alloc());
     table.insert("to")?;

@@ -7,7 +7,6 @@ use Rattle.std.specs.FinMap as finite
 use Rattle.index_definitions.specs.PostingLists.{last_document}
 use Rattle.text_table.proofs.TextTablesLemmas.{slice_get-number, AreDistinct-added}
 use Rattle.indexer.specs.ShardTables.{places_from, last_of}
-use Rattle.indexer.proofs.LongestLemmas.{greatest-push}
 use Rattle.indexer.proofs.ShardLemmas.{places_of-new, places_of-at, places_from-push}
 use Rattle.indexer.proofs.ShardLemmas.{places_from-set}
 use Rattle.indexer.proofs.ShardLemmas.{greatest-set, last_document-push}
@@ -16,28 +15,28 @@ use Rattle.indexer.proofs.shard.append_place.Goals as goal
 pub append_at-requires-clause-within : goal.append_at-requires-clause-within
 append_at-requires-clause-within c =
     let ts = c.args.terms.now in
-    let at = slice_get-number ts c.args.term.now c.in-Some.number (sym c.in-Some.ensures) in
-    omega (arith, slice_get_within ts c.in-Some.number c.args.term.now at, c.requires.pairs.paired)
+    let at = slice_get-number ts c.args.term.now c.in-Ok.number c.in-Ok.ensures.number in
+    omega (arith, slice_get_within ts c.in-Ok.number c.args.term.now at, c.requires.pairs.paired)
 
 pub append_at-requires-clause-rises : goal.append_at-requires-clause-rises
 append_at-requires-clause-rises c =
     let ts = c.args.terms.now in
-    let n = c.in-Some.number in
-    let at = slice_get-number ts c.args.term.now n (sym c.in-Some.ensures) in
+    let n = c.in-Ok.number in
+    let at = slice_get-number ts c.args.term.now n c.in-Ok.ensures.number in
     subst (λ l. last_document l < c.args.doc)
     (places_of-at c.args.term.now ts c.args.lists.now.items n c.requires.pairs.distinct at
     (append_at-requires-clause-within c))
     c.requires.rises
 
 -- the term was there
-pub returns-clause-places : goal.returns-clause-places
-returns-clause-places c =
+pub returns-in-Ok-clause-places : goal.returns-in-Ok-clause-places
+returns-in-Ok-clause-places c =
     let ts = c.args.terms.now in
     let ls = c.args.lists.now.items in
     let term = c.args.term.now in
-    let n = c.in-Some.number in
+    let n = c.in-Ok.number in
     let more = (c.args.doc, c.args.positions.now) ∷ [] in
-    let at = slice_get-number ts term n (sym c.in-Some.ensures) in
+    let at = slice_get-number ts term n c.in-Ok.ensures.number in
     let within : n < length ls =
     omega (arith, slice_get_within ts n term at, c.requires.pairs.paired) in
     on_ok_weaker c.append_at.result (λ new.
@@ -47,12 +46,12 @@ returns-clause-places c =
     (sym (places_of-at term ts ls n c.requires.pairs.distinct at within)))
     c.append_at.ensures.ok
 
-pub returns-clause-last : goal.returns-clause-last
-returns-clause-last c =
+pub returns-in-Ok-clause-last : goal.returns-in-Ok-clause-last
+returns-in-Ok-clause-last c =
     let ts = c.args.terms.now in
     let ls = c.args.lists.now.items in
-    let n = c.in-Some.number in
-    let at = slice_get-number ts c.args.term.now n (sym c.in-Some.ensures) in
+    let n = c.in-Ok.number in
+    let at = slice_get-number ts c.args.term.now n c.in-Ok.ensures.number in
     let within : n < length ls =
     omega (arith, slice_get_within ts n c.args.term.now at, c.requires.pairs.paired) in
     let list = get_or ls n [] ++ (c.args.doc, c.args.positions.now) ∷ [] in
@@ -67,37 +66,30 @@ returns-clause-last c =
     c.append_at.ensures.ok
 
 -- the term was new
-pub returns-in_default-clause-pairs : goal.returns-in_default-clause-pairs
-returns-in_default-clause-pairs c =
+pub returns-in_ok-push_both-in-Err-clause-pairs
+    : goal.returns-in_ok-push_both-in-Err-clause-pairs
+returns-in_ok-push_both-in-Err-clause-pairs c =
     let ts = c.args.terms.now in
     let ls = c.args.lists.now.items in
     let term = c.args.term.now in
-    let none = sym c.number_of.ensures ∙ c.in_default.is in
-    rw (c.in_ok-push_both.ensures.terms, c.in_ok-push_both.ensures.lists)
+    let none = c.in-Err.ensures.new_text in
+    rw (c.in_ok-push_both-in-Err.ensures.terms, c.in_ok-push_both-in-Err.ensures.lists)
     (record {
       distinct = AreDistinct-added ts term c.requires.pairs.distinct none;
       paired = length_push ts term ∙ ap (λ n. n + 1) c.requires.pairs.paired
           ∙ sym (length_push ls c.append.new.self);
     })
 
-pub returns-in_default-clause-places : goal.returns-in_default-clause-places
-returns-in_default-clause-places c =
+pub returns-in_ok-push_both-in-Err-clause-places
+    : goal.returns-in_ok-push_both-in-Err-clause-places
+returns-in_ok-push_both-in-Err-clause-places c =
     let ts = c.args.terms.now in
     let ls = c.args.lists.now.items in
     let term = c.args.term.now in
-    let none = sym c.number_of.ensures ∙ c.in_default.is in
+    let none = c.in-Err.ensures.new_text in
     let more = (c.args.doc, c.args.positions.now) ∷ [] in
-    let list = c.in_ok-append.ensures.ok ∙ ap (λ l. l ++ more) c.new-list.ensures in
-    ap₂ places_from c.in_ok-push_both.ensures.terms c.in_ok-push_both.ensures.lists
+    let list = c.in_ok-append-in-Err.ensures.ok ∙ ap (λ l. l ++ more) c.new-list.ensures in
+    ap₂ places_from c.in_ok-push_both-in-Err.ensures.terms c.in_ok-push_both-in-Err.ensures.lists
     ∙ places_from-push ts ls term c.append.new.self c.requires.pairs.paired none
     ∙ ap (finite.insert (places_from ts ls) term)
     (list ∙ ap (λ l. l ++ more) (sym (places_of-new term ts ls none)))
-
-pub returns-in_default-clause-last : goal.returns-in_default-clause-last
-returns-in_default-clause-last c =
-    let ls = c.args.lists.now.items in
-    let more = (c.args.doc, c.args.positions.now) ∷ [] in
-    let list = c.in_ok-append.ensures.ok ∙ ap (λ l. l ++ more) c.new-list.ensures in
-    ap last_of c.in_ok-push_both.ensures.lists
-    ∙ greatest-push last_document 0 ls c.append.new.self
-    ∙ ap (λ l. max (last_of ls) (last_document l)) list

@@ -9,7 +9,7 @@ use Rattle.text_table.specs.TextTables.{number_of}
 use Rattle.text_table.proofs.LookupsLemmas.{FindsTexts-moved, FindsTexts-alike}
 use Rattle.text_table.proofs.LookupsLemmas.{FindsTexts-put, FindsTexts-put_over}
 use Rattle.text_table.proofs.LookupsLemmas.{get_by_text-unchanged}
-use Rattle.text_table.proofs.table.TextTable.push.Goals as goal
+use Rattle.text_table.proofs.table.TextTable.insert_absent.Goals as goal
 
 -- the text was taken off again
 pub invariant_of-self-in-Err : goal.invariant_of-self-in-Err
@@ -55,5 +55,5 @@ invariant_of-self-else-not-put c =
     (subst (λ ts. length ts < 2 ^ 32) c.in_ok-push.ensures.ok c.in_ok-push.ensures.few)
     (ap (λ ts. number_of ts text) room ∙ c.requires.new_text)
     (subst (λ n. Holds after (tag_of text) n) c.len-number.ensures
-    (subst (λ tag. Holds after tag c.len-number.result) c.requires.tag
+    (subst (λ tag. Holds after tag c.len-number.result) (c.absent.view_is ∙ c.requires.absent)
     (c.if-not-put.ensures.put refl))))
