@@ -1,7 +1,7 @@
 -- The calls that build an index, one at a time.
 use Rattle.std.proofs.Common.{◌≡◌, ◌≢◌, ℕ, suc, ◌+◌, ◌^◌, ◌<◌, ◌≤◌, List, [], ◌∷◌, ◌++◌, map, length}
 use Rattle.std.proofs.Common.{Some, None, take, get_or, cond, nat_lt, true, false, refl, sym, ap, ap₂}
-use Rattle.std.proofs.Common.{◌∙◌, subst, ⊎_elim, inr, append-nil, flat_map, arith, Vec, Global, Result, Ok, OnOk}
+use Rattle.std.proofs.Common.{◌∙◌, subst, ⊎_elim, inr, append-nil, flat_map, arith, Vec, Global}
 use Rattle.std.specs.Prelude.{slice_get}
 use Rattle.std.proofs.Math.Seq.{get_or-append_seam}
 use Rattle.std.proofs.lemmas.Option.{same_Some}
@@ -20,7 +20,7 @@ use Rattle.delegation.specs.declared.call.Call.TheVariants as call
 use Rattle.delegation.specs.Meanings.{shape_of}
 use Rattle.delegation.specs.Answers.{Accepts}
 use Rattle.indexer.specs.declared.item.Item.{Item}
-use Rattle.indexer.specs.declared.item.Item.TheVariants.{Doc, Shard, Stop}
+use Rattle.indexer.specs.declared.item.Item.TheVariants.{Doc, Shard}
 use Rattle.indexer.specs.declared.item.ItemOp.{ItemOp}
 use Rattle.indexer.specs.declared.item.ItemOp.TheVariants.{Split, Gather}
 use Rattle.indexer.specs.Documents.{Word, Content, whole, split, split_words}
@@ -29,7 +29,7 @@ use Rattle.indexer.specs.Shards.{ShardParts, empty_shard, gathered_content}
 use Rattle.indexer.specs.Items.{own_set}
 use Rattle.indexer.specs.Builds.{item_meaning}
 use Rattle.indexer.specs.Stages.{whole_at, split_at, words_to, gathered_to, HasItems, HasMarks}
-use Rattle.indexer.specs.Stages.{MayDelegate, IsSplitting, IsGathering}
+use Rattle.indexer.specs.Stages.{IsSplitting, IsGathering}
 use Rattle.indexer.proofs.StagesLemmas.{ItemCall, ItemState, ItemView, items-document, items-shard, items-split}
 use Rattle.indexer.proofs.StagesLemmas.{items-gather}
 use Rattle.indexer.proofs.JoinedLemmas.{totals_of-none}

@@ -1,26 +1,16 @@
 -- What a call changes in a runtime that builds an index, and that none of them is refused.
-use Rattle.std.proofs.Common.{◌≡◌, ◌≢◌, ℕ, zero, suc, ◌+◌, ◌^◌, ◌<◌, ◌≤◌, ◌⊎◌, Bool, true, false}
-use Rattle.std.proofs.Common.{Option, Some, None, List, [], ◌∷◌, ◌++◌, length, map, Result, Ok, Err}
-use Rattle.std.proofs.Common.{refl, sym, ap, ap₂, ◌∙◌, subst, ⊎_elim, arith, nat_lt, cond, inl, inr}
-use Rattle.std.specs.Prelude.{slice_get, slice_set, ◌==◌, IsSome, IfOk, OnOk}
-use Rattle.std.specs.Option.{option_map}
+use Rattle.std.proofs.Common.{◌≡◌, ◌≢◌, ℕ, zero, suc, ◌+◌, ◌<◌}
+use Rattle.std.proofs.Common.{Some, None, List, [], ◌∷◌, ◌++◌, length, Result, Ok, Err}
+use Rattle.std.proofs.Common.{refl, sym, ap, ◌∙◌, subst, ⊎_elim, arith, nat_lt}
+use Rattle.std.specs.Prelude.{slice_get, slice_set, ◌==◌, IfOk, OnOk}
 use Rattle.std.proofs.lemmas.Bool.{cases_Bool}
 use Rattle.std.proofs.lemmas.Bool.Decides.{nat_tests}
 use Rattle.std.proofs.lemmas.List.{length-append}
-use Rattle.std.proofs.lemmas.Option.{slice_get_within, same_Some}
 use Rattle.ss_base.specs.declared.text.OutOfMemory.{OutOfMemory}
 use Rattle.execution_definitions.specs.declared.refusal.Refusal.{Refusal}
-use Rattle.execution_definitions.specs.declared.serializer.By.{By}
 use Rattle.execution_definitions.specs.declared.serializer.By.TheVariants as by
-use Rattle.execution_definitions.specs.declared.serializer.Serializer.{Serializer}
-use Rattle.execution_definitions.specs.Shapes.{Shape}
-use Rattle.execution_definitions.specs.Sets.{set_by}
-use Rattle.execution_definitions.specs.Refusals.{object_id, set_id}
-use Rattle.partition_check.specs.declared.mark.Mark.{Mark}
-use Rattle.partition_check.specs.Marked.{Marked, mark_at}
+use Rattle.execution_definitions.specs.Refusals.{object_id}
 use Rattle.partition_check.specs.Judged.{judged}
-use Rattle.partition_check.specs.MarkedAfter.{marked_after, fresh_mark, cleared_mark, changed_at}
-use Rattle.partition_check.specs.MarkedAfter.{with_set, with_reader}
 use Rattle.delegation.specs.declared.call.Call.{Call}
 use Rattle.delegation.specs.declared.call.Call.TheVariants as call
 use Rattle.delegation.specs.declared.call.Reply.{Reply}
@@ -40,8 +30,7 @@ use Rattle.indexer.proofs.JoinedLemmas.{totals_of-append, totals_of-nothing_more
 use Rattle.indexer.specs.Shards.{ShardParts, gathered_content}
 use Rattle.indexer.specs.Items.{own_set}
 use Rattle.indexer.specs.Builds.{item_meaning}
-use Rattle.indexer.specs.Stages.{IsWritable, HasItems, HasMarks, IsPrivate, IsReadable}
-use Rattle.indexer.specs.Stages.{MayDelegate}
+use Rattle.indexer.specs.Stages.{HasItems}
 
 -- a call of a runtime of items
 abbrev pub ItemCall : Type 0

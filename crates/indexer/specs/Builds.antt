@@ -5,7 +5,7 @@
 use Rattle.std.specs.Prelude.{◌≡◌, ℕ, List, length, map}
 use Rattle.std.specs.List.{enumerate_from, flat_map}
 use Rattle.index_definitions.specs.Postings.{Posting, posting_at, is_stopped}
-use Rattle.index_definitions.specs.Index.{IndexRecord, index, index_of}
+use Rattle.index_definitions.specs.Index.{IndexRecord, index_of}
 use Rattle.delegation.specs.Meanings.{Meaning, meaning}
 use Rattle.indexer.specs.Documents.{has_term, split_words}
 use Rattle.indexer.specs.Totals.{Totals, no_totals, totals_join}

@@ -1,11 +1,10 @@
-use Rattle.std.proofs.Common.{rules, ◌≡◌, ℕ, List, Vec, Global, map, length, sym, ap, ◌∙◌, subst, arith}
+use Rattle.std.proofs.Common.{rules, ◌≡◌, ℕ, Vec, Global, length, sym, ap, ◌∙◌, subst}
 use Rattle.std.proofs.lemmas.List.{length-map}
-use Rattle.indexer.specs.Builds.{split_index, Stops}
 use Rattle.indexer.specs.Shards.{empty_shard}
 use Rattle.indexer.specs.Totals.{no_totals, totals_of}
 use Rattle.indexer.specs.Stages.{whole_at, split_at, words_to, gathered_to, HasItems}
 use Rattle.indexer.proofs.BuildingLemmas.{bytes_of}
-use Rattle.indexer.proofs.BuiltLemmas.{built_from, index_with}
+use Rattle.indexer.proofs.BuiltLemmas.{built_from}
 use Rattle.indexer.proofs.SplitPostingsLemmas.{split_index-stops}
 use Rattle.indexer.proofs.WordCountLemmas.{AreWithin-vectors}
 use Rattle.indexer.proofs.building.build.Goals as goal

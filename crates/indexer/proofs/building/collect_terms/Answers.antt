@@ -1,9 +1,9 @@
-use Rattle.std.proofs.Common.{rules, ◌≡◌, ◌+◌, ◌*◌, refl, sym, ap, ◌∙◌, subst, arith}
+use Rattle.std.proofs.Common.{rules, ◌≡◌, ◌+◌, ◌*◌, sym, ◌∙◌, subst, arith}
 use Rattle.delegation.specs.declared.call.Reply.TheVariants as reply
 use Rattle.indexer.specs.Collected.{CollectsTerms}
 use Rattle.indexer.proofs.StagesLemmas.{accepts}
 use Rattle.indexer.proofs.BuildingLemmas.{counted-marks, is_shard}
-use Rattle.indexer.proofs.BuiltLemmas.{collects-none, collects-push}
+use Rattle.indexer.proofs.BuiltLemmas.{collects-push}
 use Rattle.indexer.proofs.building.collect_terms.Goals as goal
 
 pub loop-number-preserved : goal.loop-number-preserved

@@ -1,4 +1,4 @@
-use Rattle.std.proofs.Common.{rules, ◌≡◌, ◌+◌, refl, sym, ap, ◌∙◌, arith}
+use Rattle.std.proofs.Common.{rules, ◌+◌, ap, ◌∙◌, arith}
 use Rattle.delegation.specs.declared.call.Reply.TheVariants as reply
 use Rattle.indexer.proofs.StagesLemmas.{accepts, no_refusal}
 use Rattle.indexer.proofs.BuildingLemmas.{none_gathered, one_gathered, all_gathered}

@@ -1,9 +1,8 @@
-use Rattle.std.proofs.Common.{rules, ◌≡◌, ◌+◌, ◌*◌, refl, sym, ap, ◌∙◌, arith}
+use Rattle.std.proofs.Common.{rules, ◌≡◌, ◌+◌, ◌*◌, sym, ap, ◌∙◌, arith}
 use Rattle.delegation.specs.declared.call.Reply.TheVariants as reply
 use Rattle.delegation.specs.declared.call.Call.TheVariants as call
-use Rattle.indexer.specs.Shards.{empty_shard}
 use Rattle.indexer.specs.Stages.{gathered_to}
-use Rattle.indexer.proofs.StagesLemmas.{accepts, no_refusal, on_accepted}
+use Rattle.indexer.proofs.StagesLemmas.{accepts, on_accepted}
 use Rattle.indexer.proofs.BuildingLemmas.{began-gathering, began-calls, ended-gathering}
 use Rattle.indexer.proofs.BuildingLemmas.{gathered_one, gathered_all}
 use Rattle.indexer.specs.Totals.{totals_of}

@@ -1,4 +1,4 @@
-use Rattle.std.proofs.Common.{rules, ◌≡◌, ◌+◌, [], ◌∷◌, ◌++◌, length, refl, sym, ap, ◌∙◌, arith}
+use Rattle.std.proofs.Common.{rules, ◌≡◌, ◌+◌, [], ◌∷◌, ◌++◌, length, refl, arith}
 use Rattle.std.proofs.Common.{append_assoc, length-append}
 use Rattle.execution_definitions.specs.declared.serializer.By.TheVariants as by
 use Rattle.delegation.specs.declared.call.Reply.TheVariants as reply
