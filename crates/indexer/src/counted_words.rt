@@ -13,13 +13,13 @@ use doc_words::StopSet;
 use ss_base::OutOfMemory;
 use std::alloc::Global;
 use std::marker::Model;
-use text_table::TextTable;
+use text_table::TextList;
 
 /// The counted words of a document, by number, and the positions of each distinct term in one
 /// piece. No word has memory of its own.
 #[derive(Drop)]
 pub(crate) struct CountedWords {
-    terms: TextTable,
+    terms: TextList,
     // one for each word: 0 where it was stopped, else its term's number and 1
     numbers: Vec<u32>,
     // the positions of each term, one term after the other, and where each term's end
@@ -44,7 +44,7 @@ impl Model for CountedWords {
 }
 
 // The shard of each term.
-fn shards_of(alloc: Global, terms: &TextTable) -> Result<Vec<u8>, OutOfMemory>
+fn shards_of(alloc: Global, terms: &TextList) -> Result<Vec<u8>, OutOfMemory>
     ensures { IfOk result (λ shards. shards.items ≡ map shard_of terms.now) }
 {
     let mut shards = Vec::with_capacity(alloc, terms.len() as usize)?;
@@ -70,7 +70,7 @@ fn longer(longest: u64, text: &str) -> u64
 }
 
 // The most characters of a term, or 0.
-fn longest_of(terms: &TextTable) -> u64
+fn longest_of(terms: &TextList) -> u64
     ensures { result ≡ fold (λ longest term. max longest (length (chars term))) 0 terms.now }
 {
     let mut longest = 0;

@@ -8,7 +8,7 @@ ghost use Rattle.indexer.specs.NumberedWords.{words_from, AreTermsOf};
 use doc_words::{StopSet, Terms, text_of};
 use ss_base::OutOfMemory;
 use std::alloc::Global;
-use text_table::TextTable;
+use text_table::{TextList, TextTable};
 
 // The number of a word: 0 for a stopped one, else 1 more than that of its term, which is kept. The
 // stop list isn't asked about a term that is known.
@@ -27,13 +27,13 @@ fn number_of_word(stop: &StopSet, terms: &mut TextTable, term: &str) -> Result<u
     }
 }
 
-// The distinct counted terms of a document, and the numbers of its words. The text that the bytes
-// are read as is needed no longer then.
+// The distinct counted terms of a document, and the numbers of its words. Neither the text that the
+// bytes are read as is kept, nor what finds the number of a term.
 pub(crate) fn number_words(
     alloc: Global,
     stop: &StopSet,
     bytes: &[u8],
-) -> Result<(TextTable, Vec<u32>), OutOfMemory>
+) -> Result<(TextList, Vec<u32>), OutOfMemory>
     requires { length bytes.now ≤ 8388608 }
     ensures words { IfOk result (λ r. words_from r.0 r.1.items ≡ split_words stop.now bytes.now) }
     ensures terms { IfOk result (λ r. AreTermsOf r.0 (words_from r.0 r.1.items)) }
@@ -48,7 +48,6 @@ pub(crate) fn number_words(
     while left.next_into(alloc, &mut term)? {
         numbers.push(number_of_word(stop, &mut terms, term.as_str())?)?;
     }
-    // A proof knows that no text stands twice once it sees how many there are.
-    let _ = terms.len();
-    Ok((terms, numbers))
+    numbers.shrink_to_fit();
+    Ok((terms.into_texts(), numbers))
 }

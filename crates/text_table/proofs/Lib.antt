@@ -1,4 +1,4 @@
-pub mod ArenasLemmas
 pub mod BucketsLemmas
 pub mod LookupsLemmas
+pub mod TextListsLemmas
 pub mod TextTablesLemmas

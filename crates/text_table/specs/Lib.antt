@@ -1,5 +1,5 @@
-pub mod Arenas
 pub mod Buckets
 pub mod Lookups
 pub mod Tags
+pub mod TextLists
 pub mod TextTables

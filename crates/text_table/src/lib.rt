@@ -2,12 +2,13 @@
 //! first come. It keeps them in one string, and no choice of texts makes it slow.
 #![tactic(auto)]
 
-mod arena;
 mod buckets;
 mod table;
 mod tag;
+mod text_list;
 
 pub use table::{Absent, TextTable};
+pub use text_list::TextList;
 
 #[cfg(test)]
 mod tests;

@@ -7,9 +7,9 @@ ghost use Rattle.std.specs.Str.{bytes_eq};
 ghost use Rattle.std.specs.List.{slice_get, All};
 ghost use Rattle.text_table.specs.TextTables.{number_of, with_text, AreDistinct};
 
-use crate::arena::Arena;
 use crate::buckets::{Buckets, PLACES, Slot};
 use crate::tag::tag_of_text;
+use crate::text_list::TextList;
 use ss_base::OutOfMemory;
 use std::alloc::Global;
 use std::collections::BTreeMap;
@@ -37,7 +37,7 @@ impl Model for Absent {
 #[derive(Drop)]
 pub struct TextTable {
     alloc: Global,
-    texts: Arena,
+    texts: TextList,
     buckets: Buckets,
     overflow: BTreeMap<String, u32>,
 }
@@ -55,7 +55,7 @@ impl Model for TextTable {
 }
 
 // The number of a text, if it stands in the text's bucket.
-fn find_among(slots: &[Slot], texts: &Arena, tag: u32, text: &str) -> Option<u32>
+fn find_among(slots: &[Slot], texts: &TextList, tag: u32, text: &str) -> Option<u32>
     ensures { MatchOption result
         (All (λ slot. slot.tag ≡ tag → slice_get texts.now slot.number ≢ Some text.now) slots.now)
         (λ number. slice_get texts.now number ≡ Some text.now) }
@@ -94,7 +94,7 @@ impl TextTable {
     {
         TextTable {
             alloc,
-            texts: Arena::new(alloc),
+            texts: TextList::new(alloc),
             buckets: Buckets::new(alloc),
             overflow: BTreeMap::new(alloc),
         }
@@ -203,6 +203,17 @@ impl TextTable {
             self.buckets = buckets;
         }
         Ok(())
+    }
+
+    /// The texts alone, without what finds them and without spare room.
+    pub fn into_texts(self) -> TextList
+        ensures texts { result ≡ self }
+        ensures distinct { AreDistinct self }
+    {
+        let TextTable { texts, .. } = self;
+        let mut list = texts;
+        list.shrink_to_fit();
+        list
     }
 
     /// A second table, equal to this one.

@@ -44,6 +44,19 @@ fn a_text_that_is_absent_is_added(rt: HostRuntime) -> Result<(), Fail> {
 }
 
 #[test]
+fn a_list_keeps_the_texts(rt: HostRuntime) -> Result<(), Fail> {
+    let mut table = TextTable::new(rt.alloc());
+    table.insert("to")?;
+    table.insert("be")?;
+    let list = table.into_texts();
+    let copy = list.copy()?;
+    assert_eq!(rt; copy.len(), 2);
+    assert_eq!(rt; list.text(0), "to");
+    assert_eq!(rt; copy.text(1), "be");
+    Ok(())
+}
+
+#[test]
 fn a_copy_stays_as_it_is(rt: HostRuntime) -> Result<(), Fail> {
     let mut table = TextTable::new(rt.alloc());
     table.insert("to")?;

@@ -8,7 +8,7 @@ pub loop-number-preserved : goal.loop-number-preserved
 loop-number-preserved c =
     let ts = c.args.terms.now in
     let k = c.loop-number.number in
-    let within : k < length ts = omega (arith, c.len-number-end.ensures.len) in
+    let within : k < length ts = omega (arith, c.len-number-end.ensures) in
     let text = get_or_from_slice_get ts k c.text.result.now [] c.text.ensures in
     c.longer-longest.ensures
     ∙ ap₂ max c.loop-number.invariant (ap characters (sym text))

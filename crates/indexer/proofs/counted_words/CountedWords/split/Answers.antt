@@ -15,7 +15,7 @@ invariant_of-result c =
           subst (λ xs. AreGrouped (length ts) xs c.in_ok-positions.positions.items
           c.in_ok-positions.ends.items) c.deref.ensures.value
           (subst (λ k. AreGrouped k c.deref.result.now c.in_ok-positions.positions.items
-          c.in_ok-positions.ends.items) c.len.ensures.len c.in_ok-positions.ensures);
+          c.in_ok-positions.ends.items) c.len.ensures c.in_ok-positions.ensures);
       shards_are = c.in_ok-shards.ensures;
       longest_is = c.longest_of-longest.ensures ∙ longest_of_terms ts (words_from ts ns) are;
     }

@@ -9,8 +9,8 @@ use Rattle.std.proofs.lemmas.List.Elements.{All-head, All-tail, All-weaker, All-
 use Rattle.std.proofs.lemmas.Str.{IsCharBoundary-at_seam, IsCharBoundary-end}
 use Rattle.std.specs.List.{All}
 use Rattle.std.specs.Str.{IsUtf8, IsCharBoundary}
-use Rattle.text_table.specs.Arenas.{text_at, IsPlace, AreTexts}
-use Rattle.text_table.specs.declared.arena.Span.{Span}
+use Rattle.text_table.specs.TextLists.{text_at, IsPlace, AreTexts}
+use Rattle.text_table.specs.declared.text_list.Span.{Span}
 
 module _ (bytes text : List ℕ) (utf8 : IsUtf8 text) where
   boundary_kept : (i : ℕ) → IsCharBoundary bytes i → IsCharBoundary (bytes ++ text) i

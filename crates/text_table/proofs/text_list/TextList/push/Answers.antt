@@ -1,9 +1,9 @@
 use Rattle.std.proofs.Common.{◌∙◌, ap, ap₂, arith, map, refl, string_bytes, ◌++◌, [], ◌∷◌}
 use Rattle.std.proofs.lemmas.Result.{err_from_is_err_and}
 use Rattle.std.proofs.lemmas.Slice.{pushed}
-use Rattle.text_table.specs.Arenas.{text_at}
-use Rattle.text_table.proofs.ArenasLemmas.{texts_kept, AreTexts-kept, AreTexts-added, texts_added}
-use Rattle.text_table.proofs.arena.Arena.push.Goals as goal
+use Rattle.text_table.specs.TextLists.{text_at}
+use Rattle.text_table.proofs.TextListsLemmas.{texts_kept, AreTexts-kept, AreTexts-added, texts_added}
+use Rattle.text_table.proofs.text_list.TextList.push.Goals as goal
 
 pub invariant_of-self-in_err-push : goal.invariant_of-self-in_err-push
 invariant_of-self-in_err-push c =

@@ -22,46 +22,47 @@ fn offset(place: usize) -> Result<u32, OutOfMemory>
     u32::try_from(place).map_err(|_| OutOfMemory)
 }
 
-/// Texts one after another in one string, and numbered from 0. Contracts see the list of them. What
-/// `drop_last` and a failed `push` leave in the string belongs to no text.
+/// Texts one after another in one string, and numbered from 0. Contracts see the list of them.
+//
+// What `drop_last` and a failed `push` leave in the string belongs to no text.
 #[derive(Drop)]
-pub(crate) struct Arena {
+pub struct TextList {
     bytes: String,
     spans: Vec<Span>,
 }
 
-impl Model for Arena {
+impl Model for TextList {
     ghost use Rattle.std.specs.Prelude.{ℕ, List, map, string_bytes};
 
     ghost Value = { List (List ℕ) };
 
-    ghost use Rattle.text_table.specs.Arenas.{text_at, AreTexts};
+    ghost use Rattle.text_table.specs.TextLists.{text_at, AreTexts};
 
-    ghost view = { λ arena. map (text_at (string_bytes arena.bytes)) arena.spans.items };
+    ghost view = { λ list. map (text_at (string_bytes list.bytes)) list.spans.items };
 
-    ghost invariant = { λ arena. AreTexts (string_bytes arena.bytes) arena.spans.items };
+    ghost invariant = { λ list. AreTexts (string_bytes list.bytes) list.spans.items };
 }
 
-impl Arena {
+impl TextList {
     /// No text, which takes no memory.
-    pub(crate) fn new(alloc: Global) -> Arena
+    pub(crate) fn new(alloc: Global) -> TextList
         ensures { result ≡ [] }
     {
-        Arena {
+        TextList {
             bytes: String::new(alloc),
             spans: Vec::new(alloc),
         }
     }
 
     /// How many texts there are.
-    pub(crate) fn len(&self) -> u32
+    pub fn len(&self) -> u32
         ensures { result ≡ length self.now }
     {
         self.spans.len() as u32
     }
 
     /// The text of a number.
-    pub(crate) fn text(&self, number: u32) -> &str
+    pub fn text(&self, number: u32) -> &str
         requires { number < length self.now }
         ensures { slice_get self.now number ≡ Some result.now }
     {
@@ -100,11 +101,19 @@ impl Arena {
         self.spans.pop();
     }
 
-    /// A second arena, equal to this one.
-    pub(crate) fn copy(&self) -> Result<Arena, OutOfMemory>
+    /// Gives the spare room back.
+    pub(crate) fn shrink_to_fit(&mut self)
+        ensures { self.new ≡ self.old }
+    {
+        self.bytes.shrink_to_fit();
+        self.spans.shrink_to_fit();
+    }
+
+    /// A second list, equal to this one.
+    pub fn copy(&self) -> Result<TextList, OutOfMemory>
         ensures { IfOk result (λ copy. copy ≡ self.now) }
     {
-        Ok(Arena {
+        Ok(TextList {
             bytes: self.bytes.clone()?,
             spans: self.spans.clone()?,
         })

@@ -2,7 +2,7 @@
 use Rattle.std.specs.Prelude.{ℕ, ◌≤◌, ◌<◌, ◌^◌, List, length, slice_range}
 use Rattle.std.specs.List.{All}
 use Rattle.std.specs.Str.{IsCharBoundary}
-use Rattle.text_table.specs.declared.arena.Span.{Span}
+use Rattle.text_table.specs.declared.text_list.Span.{Span}
 
 -- the bytes from the start of a place to its end
 abbrev pub text_at : List ℕ → Span → List ℕ
