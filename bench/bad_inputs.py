@@ -170,7 +170,8 @@ LIMITS = [
     ("all documents at their limit", ["full"] * 8, indexed(8, 0, 0)),
     ("the same and an empty one", ["full"] * 8 + ["empty"], indexed(9, 0, 0)),
     ("nine documents at the limit", ["full"] * 9, over_limit("documents to 9 are over 67108864 bytes")),
-    ("a small document over the limit of all", ["full"] * 8 + ["b"], over_limit("documents to 9 are over 67108864 bytes")),
+    ("a small document over the limit of all", ["full"] * 8 + ["b"],
+     over_limit("documents to 9 are over 67108864 bytes")),
     ("both limits at one byte", ["full"] * 7 + ["over"], over_limit("document 8 is over 8388608 bytes: over")),
     ("that of all documents some bytes before", ["b"] + ["full"] * 7 + ["over"],
      over_limit("documents to 9 are over 67108864 bytes")),
@@ -363,8 +364,8 @@ def try_names(ssidx, report, folder):
         report.answer(f"names, {case}", wanted, answer([ssidx, "index", *words], GIVEN, cwd=folder))
     for case, words, wanted in LIMITS:
         report.answer(f"limits, {case}", wanted, answer([ssidx, "index", *words], GIVEN, cwd=folder))
-    wanted = over_limit("document 2 is over 8388608 bytes: -")
-    report.answer("limits, `-` behind a name", wanted, answer([ssidx, "index", "a", "-"], b" " * (LIMIT + 1), cwd=folder))
+    got = answer([ssidx, "index", "a", "-"], b" " * (LIMIT + 1), cwd=folder)
+    report.answer("limits, `-` behind a name", over_limit("document 2 is over 8388608 bytes: -"), got)
     try_permission(ssidx, report, folder)
 
 
