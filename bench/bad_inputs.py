@@ -22,12 +22,14 @@ import fcntl
 import itertools
 import os
 import random
+import shutil
 import subprocess
 import sys
 import tempfile
 import termios
 import threading
 
+import gen_model
 from measure import best_of, measured, yardstick
 
 LIMIT = 8_388_608  # bytes of a document
@@ -51,11 +53,38 @@ EMPTY = b"documents 1\nwords 0\nlongest 0\nterms 0\n"
 NOT_COMMANDS = [
     ("no words", []),
     ("`index` alone", ["index"]),
-    ("`index a`", ["index", "a"]),
+    ("`index -x`", ["index", "-x"]),
+    ("`index a -x`", ["index", "a", "-x"]),
     ("`index --`", ["index", "--"]),
-    ("`index - -`", ["index", "-", "-"]),
     ("`index` and an empty word", ["index", ""]),
+    ("an empty word among names", ["index", "a", "", "a"]),
+    ("`index --stop`", ["index", "--stop"]),
+    ("`index --stop a`", ["index", "--stop", "a"]),
+    ("`index --stop -x a`", ["index", "--stop", "-x", "a"]),
+    ("`--stop` and an empty word", ["index", "--stop", "", "a"]),
+    ("`--stop` twice", ["index", "--stop", "a", "--stop", "a", "a"]),
+    ("`--stop` behind a name", ["index", "a", "--stop", "a"]),
+    ("`--stop=a`", ["index", "--stop=a", "a"]),
+    ("`--Stop`", ["index", "--Stop", "a", "a"]),
+    ("`--stop` before the command", ["--stop", "a", "index", "a"]),
     ("`script`", ["script"]),
+    ("`script a a`", ["script", "a", "a"]),
+    ("`gen`", ["gen"]),
+    ("`gen 1 1`", ["gen", "1", "1"]),
+    ("`gen 1 1 1 1`", ["gen", "1", "1", "1", "1"]),
+    ("`gen 0 1 1`", ["gen", "0", "1", "1"]),
+    ("`gen 1 1 -1`", ["gen", "1", "1", "-1"]),
+    ("`gen +1 1 1`", ["gen", "+1", "1", "1"]),
+    ("`gen 1 1.0 1`", ["gen", "1", "1.0", "1"]),
+    ("`gen 1 0x1 1`", ["gen", "1", "0x1", "1"]),
+    ("`gen` and an empty word", ["gen", "1", "", "1"]),
+    ("`gen` and a space", ["gen", "1", " 1", "1"]),
+    ("`gen` and a digit that isn't ASCII", ["gen", "1", "١", "1"]),
+    ("a seed of 2^31", ["gen", "1", "1", "2147483648"]),
+    ("2^32 documents", ["gen", "4294967296", "1", "1"]),
+    ("2^32 words", ["gen", "1", "4294967296", "1"]),
+    ("a number of 11 digits", ["gen", "12345678901", "1", "1"]),
+    ("a 1 of 11 digits", ["gen", "1", "00000000001", "1"]),
     ("`Index -`", ["Index", "-"]),
     ("`- index`", ["-", "index"]),
     ("`--help`", ["--help"]),
@@ -63,8 +92,7 @@ NOT_COMMANDS = [
     ("byte FF", [b"\xff"]),
     ("`index` and byte FF", ["index", b"\xff"]),
     ("`index -` and byte FF", ["index", "-", b"\xff"]),
-    ("a word of 131,071 bytes", ["index", "a" * 131_071]),
-    ("20,000 words", ["index"] + ["-"] * 20_000),
+    ("20,000 names and an option", ["index"] + ["-"] * 20_000 + ["--stop"]),
 ]
 
 INDEX = ["index", "-"]
@@ -80,6 +108,93 @@ STREAMS = [
     ("error stream closed, usage due", "2>&-", [], 2, b""),
     ("error stream full, usage due", "2>/dev/full", [], 2, b""),
     ("error stream closed, standard input too", "<&- 2>&-", INDEX, 3, b""),
+]
+
+
+def read_fault(name):
+    return 3, b"", f"ssidx: cannot read {name}\n".encode()
+
+
+def over_limit(told):
+    return 6, b"", f"ssidx: limit: {told}\n".encode()
+
+
+def indexed(documents, words, longest, *terms):
+    """The answer with this index, of which `terms` are the lines."""
+    head = [f"documents {documents}", f"words {words}", f"longest {longest}", f"terms {len(terms)}"]
+    return 0, "".join(line + "\n" for line in [*head, *terms]).encode(), b""
+
+
+# Files in the folder of the cases below. There is a folder `d` too.
+FILES = {"a": b"a b A", "b": b"b c", "empty": b"", "all": b"c b a", "capital": b"B", "-x": b"b c"}
+GIVEN = b"x b"  # on standard input
+OF_A = indexed(1, 3, 1, "a 2 1:1,3", "b 1 1:2")
+
+# Words behind `index` that name inputs, with the right answers.
+NAMES = [
+    ("two documents", ["a", "b"], indexed(2, 5, 1, "a 2 1:1,3", "b 2 1:2;2:1", "c 1 2:2")),
+    ("a name twice", ["a", "a"], indexed(2, 6, 1, "a 4 1:1,3;2:1,3", "b 2 1:2;2:2")),
+    ("`-` among names", ["a", "-", "b"], indexed(3, 7, 1, "a 2 1:1,3", "b 3 1:2;2:2;3:1", "c 1 3:2", "x 1 2:1")),
+    ("`-` twice", ["-", "-"], indexed(2, 2, 1, "b 1 1:2", "x 1 1:1")),
+    ("20,000 times `-`", ["-"] * 20_000, indexed(20_000, 2, 1, "b 1 1:2", "x 1 1:1")),
+    ("an empty file", ["empty"], indexed(1, 0, 0)),
+    ("a document between empty ones", ["empty", "a", "empty"], indexed(3, 3, 1, "a 2 2:1,3", "b 1 2:2")),
+    ("`./-x`", ["./-x"], indexed(1, 2, 1, "b 1 1:1", "c 1 1:2")),
+    ("a stop list", ["--stop", "capital", "a", "b"], indexed(2, 3, 1, "a 2 1:1,3", "c 1 2:2")),
+    ("a stop list that stops all", ["--stop", "all", "a", "b"], indexed(2, 0, 0)),
+    ("a document that is its own stop list", ["--stop", "a", "a"], indexed(1, 0, 0)),
+    ("an empty stop list", ["--stop", "empty", "a"], OF_A),
+    ("`-` as the stop list", ["--stop", "-", "a"], indexed(1, 2, 1, "a 2 1:1,3")),
+    ("`-` as the stop list and as a document", ["--stop", "-", "-", "a"], indexed(2, 2, 1, "a 2 2:1,3")),
+    ("an absent name among present ones", ["a", "absent", "b"], read_fault("absent")),
+    ("two absent names", ["a", "absent", "gone"], read_fault("absent")),
+    ("an absent stop list", ["--stop", "absent", "a"], read_fault("absent")),
+    ("an absent stop list and an absent name", ["--stop", "absent", "gone"], read_fault("absent")),
+    ("a folder as a document", ["a", "d"], read_fault("d")),
+    ("a folder as a stop list", ["--stop", "d", "a"], read_fault("d")),
+    ("a name below a file", ["a/b"], read_fault("a/b")),
+    ("a file with a slash behind its name", ["a/"], read_fault("a/")),
+    ("an absent name of two lines", ["x\ny"], read_fault("x\ny")),
+    ("a name that is too long for the system", ["a" * 256], read_fault("a" * 256)),
+    ("a name of 131,071 bytes", ["a" * 131_071], read_fault("a" * 131_071)),
+    ("a file that opens and can't be read", ["a", "/proc/self/mem"], read_fault("/proc/self/mem")),
+    ("an endless file", ["a", "/dev/zero"], over_limit("document 2 is over 8388608 bytes: /dev/zero")),
+    ("an endless stop list", ["--stop", "/dev/zero", "a"], over_limit("stop list is over 8388608 bytes")),
+]
+
+# The same of limits. `full` has as many bytes as a document may have, and `over` one more, all spaces.
+IN_EACH = [";".join(f"{i}:{positions}" for i in range(1, 65_537)) for positions in ("1,3", "2")]
+LIMITS = [
+    ("a document at its limit", ["full"], indexed(1, 0, 0)),
+    ("a document over its limit", ["a", "over"], over_limit("document 2 is over 8388608 bytes: over")),
+    ("all documents at their limit", ["full"] * 8, indexed(8, 0, 0)),
+    ("the same and an empty one", ["full"] * 8 + ["empty"], indexed(9, 0, 0)),
+    ("nine documents at the limit", ["full"] * 9, over_limit("documents to 9 are over 67108864 bytes")),
+    ("a small document over the limit of all", ["full"] * 8 + ["b"],
+     over_limit("documents to 9 are over 67108864 bytes")),
+    ("both limits at one byte", ["full"] * 7 + ["over"], over_limit("document 8 is over 8388608 bytes: over")),
+    ("that of all documents some bytes before", ["b"] + ["full"] * 7 + ["over"],
+     over_limit("documents to 9 are over 67108864 bytes")),
+    ("a stop list at its limit", ["--stop", "full", "a"], OF_A),
+    ("a stop list over its limit", ["--stop", "over", "a"], over_limit("stop list is over 8388608 bytes")),
+    ("a stop list and a document over theirs", ["--stop", "over", "over"],
+     over_limit("stop list is over 8388608 bytes")),
+    ("65,536 names", ["a"] * 65_536, indexed(65_536, 196_608, 1, f"a 131072 {IN_EACH[0]}", f"b 65536 {IN_EACH[1]}")),
+    ("65,537 names", ["a"] * 65_537, over_limit("65537 names are over 65536")),
+    ("65,537 absent names and an absent stop list", ["--stop", "absent"] + ["y"] * 65_537,
+     over_limit("65537 names are over 65536")),
+]
+
+# Documents, words and seed, whose summaries the model knows, and those that meet a limit.
+GENERATED = [
+    (1, 0, 0), (65_536, 0, 0), (1, 1, 0), (1, 1, 2**31 - 1), (2, 5, 1), (3, 1000, 42), (100, 37, 2**31 - 1),
+    (65_536, 1, 7), (2, 100_000, 5),
+]
+OVER_GENERATED = [(1, 2_000_000, 3), (9, 1_700_000, 7), (65_536, 1100, 0)]
+OVER_AT_ONCE = [
+    ("65,537 documents", (65_537, 0, 0), "65537 names are over 65536"),
+    ("all that can be said", (2**32 - 1, 2**32 - 1, 2**31 - 1), "4294967295 names are over 65536"),
+    ("2^32 - 1 words", (1, 2**32 - 1, 0), "document 1 is over 8388608 bytes"),
 ]
 
 # Documents, with their indexes. `a` and `b` stand around what is malformed where two words are told.
@@ -244,6 +359,54 @@ def try_limits(ssidx, report):
     report.line("endless input, bytes read past the limit", over <= 65_536, told)
 
 
+def try_names(ssidx, report, folder):
+    for case, words, wanted in NAMES:
+        report.answer(f"names, {case}", wanted, answer([ssidx, "index", *words], GIVEN, cwd=folder))
+    for case, words, wanted in LIMITS:
+        report.answer(f"limits, {case}", wanted, answer([ssidx, "index", *words], GIVEN, cwd=folder))
+    got = answer([ssidx, "index", "a", "-"], b" " * (LIMIT + 1), cwd=folder)
+    report.answer("limits, `-` behind a name", over_limit("document 2 is over 8388608 bytes: -"), got)
+    try_permission(ssidx, report, folder)
+
+
+def try_permission(ssidx, report, folder):
+    """Nothing is kept from a superuser, so the program runs as another user then."""
+    program = shutil.copy(ssidx, os.path.join(folder, "ssidx"))
+    os.chmod(folder, 0o755)
+    os.chmod(os.path.join(folder, "b"), 0)
+    user = {"user": 65_534, "group": 65_534, "extra_groups": []} if os.geteuid() == 0 else {}
+    for case, words in [("a document", ["a", "b"]), ("a stop list", ["--stop", "b", "a"])]:
+        got = answer([program, "index", *words], GIVEN, cwd=folder, **user)
+        report.answer(f"names, {case} without permission", read_fault("b"), got)
+
+
+@contextlib.contextmanager
+def folder_of_files():
+    with tempfile.TemporaryDirectory() as folder:
+        os.mkdir(os.path.join(folder, "d"))
+        for name, document in [*FILES.items(), ("full", b" " * LIMIT), ("over", b" " * (LIMIT + 1))]:
+            with open(os.path.join(folder, name), "wb") as file:
+                file.write(document)
+        yield folder
+
+
+def try_gen(ssidx, report):
+    for numbers in GENERATED:
+        wanted = (0, gen_model.summary(*numbers).encode(), b"")
+        report.answer("gen, {} documents, {} words, seed {}".format(*numbers), wanted, generated(ssidx, numbers))
+    for numbers in OVER_GENERATED:
+        wanted = (6, b"", gen_model.limit(*numbers).encode())
+        report.answer("gen, {} documents, {} words, seed {}".format(*numbers), wanted, generated(ssidx, numbers))
+    for case, numbers, told in OVER_AT_ONCE:
+        report.answer(f"gen, {case}", over_limit(told), generated(ssidx, numbers))
+    wanted = generated(ssidx, (1, 1, 1))
+    report.answer("gen, numbers of ten digits", wanted, answer([ssidx, "gen"] + ["0000000001"] * 3))
+
+
+def generated(ssidx, numbers):
+    return answer([ssidx, "gen", *map(str, numbers)])
+
+
 def try_documents(ssidx, report):
     for case, document, index in DOCUMENTS:
         report.answer(f"document, {case}", (0, index, b""), answer([ssidx, *INDEX], document))
@@ -330,8 +493,11 @@ def main():
     ssidx, report = os.path.abspath(options.ssidx), Report()
     # First, since the documents of later cases are held in memory, and no peak below that could be seen.
     try_hard(ssidx, report, options.english, yardstick() if options.compare else None)
-    for case, words in NOT_COMMANDS:
-        report.answer(f"usage, {case}", (2, b"", USAGE), answer([ssidx, *words], b"a b A"))
+    with folder_of_files() as folder:
+        for case, words in NOT_COMMANDS:
+            report.answer(f"usage, {case}", (2, b"", USAGE), answer([ssidx, *words], b"a b A", cwd=folder))
+        try_names(ssidx, report, folder)
+    try_gen(ssidx, report)
     try_streams(ssidx, report)
     try_reader_that_leaves(ssidx, report)
     try_limits(ssidx, report)

@@ -42,14 +42,14 @@ class Run:
     digest: str
 
 
-def measured(words, input_path=os.devnull, seconds_limit=600.0):
-    """Runs a command with a file as standard input, and kills it (status -9) at the limit.
+def measured(words, input_path=os.devnull, seconds_limit=600.0, folder=None):
+    """Runs a command with a file as standard input, maybe in a folder, and kills it (status -9) at the limit.
 
     The system counts a child's peak from the highest that its parent has held, so callers keep their data in files.
     """
     with open(input_path, "rb") as given, tempfile.TemporaryFile() as printed:
         start = time.perf_counter()
-        child = subprocess.Popen(words, stdin=given, stdout=printed, stderr=subprocess.DEVNULL)
+        child = subprocess.Popen(words, stdin=given, stdout=printed, stderr=subprocess.DEVNULL, cwd=folder)
         alarm = threading.Timer(seconds_limit, child.kill)
         alarm.start()
         _, status, usage = os.wait4(child.pid, 0)

@@ -9,6 +9,8 @@ each of `baseline fast 1` and `baseline plain 1`. Where a limit is given, the fi
 1 where the printed indexes differ or a figure is over its limit.
 """
 import argparse
+import bisect
+import itertools
 import os
 import subprocess
 import sys
@@ -81,6 +83,19 @@ def prefixes_of(path, folder):
     return prefixes
 
 
+def fronts_of(files):
+    """Documents from the front with at most 1/8, 1/4, 1/2 and the whole of the bytes, by their sizes in bytes."""
+    ends = list(itertools.accumulate(map(os.path.getsize, files)))
+    counts = [bisect.bisect_right(ends, ends[-1] // part) for part in (8, 4, 2, 1)]
+    return {ends[count - 1]: files[:count] for count in counts if count}
+
+
+def worst_growth(seconds):
+    """The most that time grows for twice the input. Fronts aren't just halves, so each step is taken for its size."""
+    sizes = sorted(seconds)
+    return max(seconds[b] / seconds[a] * 2 * a / b for a, b in zip(sizes, sizes[1:]))
+
+
 def is_within(what, figure, limit):
     if limit is None:
         print(f"{what}: {figure:.2f}")
@@ -92,7 +107,7 @@ def is_within(what, figure, limit):
 def main():
     parser = argparse.ArgumentParser(description=__doc__, formatter_class=argparse.RawDescriptionHelpFormatter)
     parser.add_argument("--stdin", action="store_true", help="give the one file on standard input")
-    parser.add_argument("--growth", action="store_true", help="with --stdin: 1/8, 1/4 and 1/2 of the file too")
+    parser.add_argument("--growth", action="store_true", help="1/8, 1/4 and 1/2 of the file or documents too")
     parser.add_argument("--repeats", type=int, default=5, help="runs of each program (5)")
     parser.add_argument("--args", default="", help="further words after `index`, as one argument")
     for name, what in LIMITS.items():
@@ -101,16 +116,20 @@ def main():
     parser.add_argument("files", nargs="+", metavar="FILE")
     options = parser.parse_args()
     growth = options.growth or options.at_most_growth is not None
-    if options.stdin and len(options.files) != 1 or growth and not options.stdin:
-        parser.error("--stdin takes one file, and growth is measured with --stdin alone")
+    if options.stdin and len(options.files) != 1:
+        parser.error("--stdin takes one file")
 
     baseline = yardstick()
     print(f"no peak below {held_bytes() / MIB:.1f} MiB can be seen")
     size = sum(os.path.getsize(name) for name in options.files)
     with tempfile.TemporaryDirectory() as folder:
         inputs = {size: options.files}
-        if growth:
+        if growth and options.stdin:
             inputs = {part: [prefix] for part, prefix in prefixes_of(options.files[0], folder).items()}
+        elif growth:
+            inputs = fronts_of(options.files)
+            if len(inputs) == 1:
+                parser.error("no documents at the front have half of the bytes")
         groups = {part: contenders_for(options, baseline, files) for part, files in inputs.items()}
         results = compared(groups, options.repeats)
     for part, files in inputs.items():
@@ -123,8 +142,7 @@ def main():
         "bytes": best["ssidx"].peak_bytes / size,
     }
     if growth:
-        seconds = [results[each]["ssidx"].seconds for each in sorted(results)]
-        figures["growth"] = max(after / before for before, after in zip(seconds, seconds[1:]))
+        figures["growth"] = worst_growth({part: result["ssidx"].seconds for part, result in results.items()})
     # A list, so that every figure is shown.
     within = [is_within(LIMITS[name], figure, getattr(options, f"at_most_{name}")) for name, figure in figures.items()]
     sys.exit(0 if all(within) else 1)
