@@ -1,13 +1,14 @@
 -- A bucket that is written leaves the others, and what stood in it where it keeps that.
 use Rattle.std.proofs.Common.{◌≡◌, ◌≢◌, ℕ, ◌<◌, List, [], length, get_or, set}
 use Rattle.std.proofs.Common.{◌≤◌, sym, ◌∙◌, ap, subst, arith}
+use Rattle.std.proofs.Common.{inl, inr, refl, Bool, true, false, IsTrue}
 use Rattle.std.proofs.Common.{⊎_elim, get_or-set_same, get_or-set_other, length-set}
 use Rattle.std.proofs.lemmas.Bool.{cases_eq, cases_lt}
 use Rattle.std.proofs.lemmas.List.{get_or_past}
 use Rattle.std.proofs.lemmas.List.Elements.{All-contains, All-get_or}
 use Rattle.std.specs.List.{All, Contains}
 use Rattle.text_table.specs.Buckets.{place_of, bucket_of, slot_of, KeepsTaken, Holds}
-use Rattle.text_table.specs.Buckets.{AreHeldBy, IsHeldBy}
+use Rattle.text_table.specs.Buckets.{AreHeldBy, IsHeldBy, IsFull, StayFull, IsHeldOrFull}
 use Rattle.text_table.specs.declared.buckets.Slot.{Slot}
 
 module _ (buckets : List (List Slot)) (place : ℕ) (bucket : List Slot)
@@ -55,6 +56,23 @@ pub AreHeldBy-both : (first second third : List (List Slot)) → AreHeldBy first
     → AreHeldBy second third → AreHeldBy first third
 AreHeldBy-both first second third sooner later tag number taken holds =
     later tag number taken (sooner tag number taken holds)
+
+-- a number that was put stands there, or its bucket was full and is so still
+pub IsHeldOrFull-put : (before after : List (List Slot)) (tag number : ℕ) (put : Bool)
+    → (IsTrue put → Holds after tag number)
+    → (put ≡ false → IsFull (bucket_of before tag)) → StayFull before after
+    → IsHeldOrFull after tag number
+IsHeldOrFull-put before after tag number true holds full still taken = inl (holds refl)
+IsHeldOrFull-put before after tag number false holds full still taken = inr (still tag (full refl))
+
+pub IsHeldOrFull-later : (before after : List (List Slot)) → AreHeldBy before after
+    → StayFull before after → (tag number : ℕ) → IsHeldOrFull before tag number
+    → IsHeldOrFull after tag number
+IsHeldOrFull-later before after held still tag number was taken =
+    ⊎_elim
+    (λ (holds : Holds before tag number). inl (held tag number taken holds))
+    (λ (full : IsFull (bucket_of before tag)). inr (still tag full))
+    (was taken)
 
 -- a number stands under its tag in one of the buckets
 pub AreHeldBy-from_each : (buckets others : List (List Slot))

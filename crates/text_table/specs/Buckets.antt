@@ -1,6 +1,6 @@
 -- Where does a number stand under its tag?
-use Rattle.std.specs.Prelude.{◌≢◌, ℕ, ◌-◌, List, [], length, bit_and, slice_index_or}
-use Rattle.std.specs.List.{Contains}
+use Rattle.std.specs.Prelude.{◌≢◌, ◌⊎◌, ℕ, ◌-◌, List, [], length, bit_and, slice_index_or}
+use Rattle.std.specs.List.{All, Contains}
 use Rattle.text_table.specs.declared.buckets.Slot.{Slot}
 use Rattle.text_table.specs.declared.buckets.TheConstants.{NO_NUMBER}
 
@@ -20,6 +20,10 @@ slot_of tag number = record { tag = tag; number = number }
 abbrev pub IsTaken : Slot → Type 0
 IsTaken slot = slot.number ≢ NO_NUMBER
 
+-- the bucket has no free place
+abbrev pub IsFull : List Slot → Type 0
+IsFull bucket = All IsTaken bucket
+
 -- what is taken in the old bucket stands in the new one
 abbrev pub KeepsTaken : List Slot → List Slot → Type 0
 KeepsTaken old new = (slot : Slot) → IsTaken slot → Contains old slot → Contains new slot
@@ -36,3 +40,13 @@ IsHeldBy buckets slot = IsTaken slot → Holds buckets slot.tag slot.number
 abbrev pub AreHeldBy : List (List Slot) → List (List Slot) → Type 0
 AreHeldBy first second =
     (tag number : ℕ) → number ≢ NO_NUMBER → Holds first tag number → Holds second tag number
+
+-- if it is a number, it stands under the tag, unless the tag's bucket is full
+abbrev pub IsHeldOrFull : List (List Slot) → ℕ → ℕ → Type 0
+IsHeldOrFull buckets tag number =
+    number ≢ NO_NUMBER → Holds buckets tag number ⊎ IsFull (bucket_of buckets tag)
+
+-- each bucket that is full in the first is full in the second
+abbrev pub StayFull : List (List Slot) → List (List Slot) → Type 0
+StayFull first second =
+    (tag : ℕ) → IsFull (bucket_of first tag) → IsFull (bucket_of second tag)

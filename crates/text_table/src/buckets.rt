@@ -1,8 +1,8 @@
 // Numbers under tags.
-ghost use Rattle.std.specs.Prelude.{◌≡◌, [], false, length, IsTrue, IfOk};
+ghost use Rattle.std.specs.Prelude.{◌≡◌, ◌↔◌, [], false, length, IsTrue, IfOk};
 ghost use Rattle.std.specs.List.{All, Contains};
 ghost use Rattle.text_table.specs.Buckets.{place_of, bucket_of, Holds, AreHeldBy, IsHeldBy};
-ghost use Rattle.text_table.specs.Buckets.{IsTaken, KeepsTaken};
+ghost use Rattle.text_table.specs.Buckets.{IsFull, StayFull, KeepsTaken};
 
 use ss_base::OutOfMemory;
 use std::alloc::Global;
@@ -42,11 +42,20 @@ impl Model for Buckets {
     ghost view = { λ buckets. buckets.buckets.items };
 }
 
+/// Whether a bucket has no free place. Places are filled from the first on, so the last one mostly
+/// tells at once.
+pub(crate) fn is_full(bucket: &[Slot]) -> bool
+    ensures { IsTrue result ↔ IsFull bucket.now }
+{
+    bucket.iter().rev().all(|place| place.number != NO_NUMBER)
+}
+
 // Puts a slot at the first free place of a bucket, and says whether there is one.
 fn put_into(bucket: &mut [Slot], slot: Slot) -> bool
     ensures put { IsTrue result → Contains bucket.new slot }
-    ensures full { result ≡ false → All IsTaken bucket.old }
+    ensures full { result ≡ false → IsFull bucket.old }
     ensures others { KeepsTaken bucket.old bucket.new }
+    ensures still_full { IsFull bucket.old → IsFull bucket.new }
 {
     let Some(free) = bucket.iter().position(|place| place.number == NO_NUMBER) else {
         return false;
@@ -101,8 +110,9 @@ impl Buckets {
     /// Puts a number under a tag, and says whether the tag's bucket had a free place for it.
     pub(crate) fn put(&mut self, tag: u32, number: u32) -> bool
         ensures put { IsTrue result → Holds self.new tag number }
-        ensures full { result ≡ false → All IsTaken (bucket_of self.old tag) }
+        ensures full { result ≡ false → IsFull (bucket_of self.old tag) }
         ensures others { AreHeldBy self.old self.new }
+        ensures still_full { StayFull self.old self.new }
         ensures len { length self.new ≡ length self.old }
     {
         let place = self.place_of_tag(tag);

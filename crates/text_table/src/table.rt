@@ -7,7 +7,7 @@ ghost use Rattle.std.specs.Str.{bytes_eq};
 ghost use Rattle.std.specs.List.{slice_get, All};
 ghost use Rattle.text_table.specs.TextTables.{number_of, with_text, AreDistinct};
 
-use crate::buckets::{Buckets, PLACES, Slot};
+use crate::buckets::{Buckets, PLACES, Slot, is_full};
 use crate::tag::tag_of_text;
 use crate::text_list::TextList;
 use ss_base::OutOfMemory;
@@ -32,7 +32,7 @@ impl Model for Absent {
 /// Distinct texts with the numbers 0, 1, 2, .. in the order in which they first came. Contracts see
 /// the list of the texts.
 ///
-/// A text is looked up by its tag, in a bucket of eight places, and where the bucket was full in an
+/// A text is looked up by its tag, in a bucket of eight places, and where the bucket is full in an
 /// ordered map. So texts that are chosen to have one tag cost what the ordered map costs.
 #[derive(Drop)]
 pub struct TextTable {
@@ -141,9 +141,11 @@ impl TextTable {
         requires { tag ≡ tag_of text.now }
         ensures { result ≡ number_of self.now text.now }
     {
-        match find_among(self.buckets.bucket_of_tag(tag), &self.texts, tag, text) {
+        let bucket = self.buckets.bucket_of_tag(tag);
+        match find_among(bucket, &self.texts, tag, text) {
             Some(number) => Some(number),
-            None => self.overflow.get(text).copied(),
+            None if is_full(bucket) => self.overflow.get(text).copied(),
+            None => None,
         }
     }
 
@@ -196,7 +198,8 @@ impl TextTable {
         }
         let mut buckets = Buckets::with_len(self.alloc, len.saturating_mul(2).max(1))?;
         if self.buckets.pour(&mut buckets) {
-            // What overflowed is found sooner in a bucket.
+            // A look-up asks the overflow only where a bucket is full. So what overflowed must
+            // stand in its new bucket, unless that is full again.
             for (text, number) in self.overflow.iter() {
                 buckets.put(tag_of_text(text.as_str()), *number);
             }

@@ -1,9 +1,9 @@
 use Rattle.std.proofs.Common.{◌<◌, ◌^◌, ◌∙◌, ◌-◌, ◌∷◌, [], Some, cond, ap, arith, length, take}
-use Rattle.std.proofs.Common.{refl, subst}
+use Rattle.std.proofs.Common.{inr, refl, subst}
 use Rattle.std.proofs.lemmas.List.{take_at, length_push}
 use Rattle.std.specs.BTreeMap.{get_by_text}
 use Rattle.std.specs.Str.{bytes_eq}
-use Rattle.text_table.specs.Buckets.{Holds}
+use Rattle.text_table.specs.Buckets.{bucket_of, Holds, IsFull}
 use Rattle.text_table.specs.Tags.{tag_of}
 use Rattle.text_table.specs.TextTables.{number_of}
 use Rattle.text_table.proofs.LookupsLemmas.{FindsTexts-moved, FindsTexts-alike}
@@ -24,7 +24,8 @@ invariant_of-self-in-Err c =
     (FindsTexts-alike texts c.put.new.self overflow c.put_over.new.overflow
     (get_by_text-unchanged overflow c.put_over.new.overflow c.in-Err.ensures.err)
     (FindsTexts-moved texts c.self.inside.buckets c.put.new.self overflow c.self.invariant
-    c.put.ensures.others))
+    c.put.ensures.others
+    (λ text n over _. inr (c.put.ensures.still_full (tag_of text) over.0))))
 
 -- the number was put into the overflow
 pub invariant_of-self-in_default : goal.invariant_of-self-in_default
@@ -35,10 +36,13 @@ invariant_of-self-in_default c =
     let room = c.self.view_is ∙ c.make_room.ensures in
     rw c.in_ok-push.ensures.ok
     (FindsTexts-put_over texts c.self.inside.buckets c.put.new.self overflow c.self.invariant
-    c.put.ensures.others text
+    c.put.ensures.others
+    (λ t n over _. inr (c.put.ensures.still_full (tag_of t) over.0)) text
     (subst (λ ts. length ts < 2 ^ 32) c.in_ok-push.ensures.ok c.in_ok-push.ensures.few)
     (ap (λ ts. number_of ts text) room ∙ c.requires.new_text)
     c.put_over.new.overflow
+    (subst (λ tag. IsFull (bucket_of c.put.new.self tag)) (c.absent.view_is ∙ c.requires.absent)
+    (c.put.ensures.still_full _ (c.if-not-put.ensures.full refl)))
     (λ key. c.in_default.ensures.put key
     ∙ ap (λ n. cond (bytes_eq text key) (Some n) (get_by_text overflow key)) c.len-number.ensures))
 
@@ -51,7 +55,8 @@ invariant_of-self-else-not-put c =
     let room = c.self.view_is ∙ c.make_room.ensures in
     rw c.in_ok-push.ensures.ok
     (FindsTexts-put texts c.self.inside.buckets after c.self.inside.overflow c.self.invariant
-    c.put.ensures.others text
+    c.put.ensures.others
+    (λ t n over _. inr (c.put.ensures.still_full (tag_of t) over.0)) text
     (subst (λ ts. length ts < 2 ^ 32) c.in_ok-push.ensures.ok c.in_ok-push.ensures.few)
     (ap (λ ts. number_of ts text) room ∙ c.requires.new_text)
     (subst (λ n. Holds after (tag_of text) n) c.len-number.ensures
