@@ -278,8 +278,12 @@ not_held read (Some serializer) (Some set) readable =
 pub allows-make : (old : Marked) (objects calls : ℕ) → HasMarks old objects calls false →
     objects < 1048576 → calls < 2 ^ 60 → (by : By) → judged old (make by) ≡ None
 allows-make old objects calls has few_objects few_calls by =
-    rw (has.count, has.calls_are, too_few objects 1048576 few_objects,
-      too_few calls (2 ^ 60) few_calls) refl
+    rw (
+      has.count,
+      has.calls_are,
+      too_few objects 1048576 few_objects,
+      too_few calls (2 ^ 60) few_calls,
+    ) refl
 
 pub allows-begin : (old : Marked) (objects calls : ℕ) → HasMarks old objects calls false →
     calls < 2 ^ 60 → judged old begin ≡ None
@@ -289,8 +293,11 @@ allows-begin old objects calls has few_calls =
 pub allows-get : (old : Marked) (objects calls : ℕ) → HasMarks old objects calls false →
     calls < 2 ^ 60 → (object : ℕ) → object < objects → judged old (get object) ≡ None
 allows-get old objects calls has few_calls object within =
-    rw (slice_get-get_or old.objects object (fresh_mark None) (rw has.count within),
-      has.calls_are, too_few calls (2 ^ 60) few_calls) refl
+    rw (
+      slice_get-get_or old.objects object (fresh_mark None) (rw has.count within),
+      has.calls_are,
+      too_few calls (2 ^ 60) few_calls,
+    ) refl
 
 pub allows-total : (old : Marked) (objects calls : ℕ) → HasMarks old objects calls false →
     calls < 2 ^ 60 → judged old total ≡ None
