@@ -32,15 +32,14 @@ impl Model for Postings {
         × (postings.documents ≡ length (lists_of postings.numbers.items)) };
 }
 
-// Makes room at the end. Most terms stand in one document, so the first has no room to spare.
+// Makes room at the end. Most terms stand in one document, so the first has no room to spare. After
+// that a list without room grows by a quarter at least, so that it isn't moved for each document.
 fn make_room(numbers: &mut Vec<u32>, count: usize) -> Result<(), OutOfMemory>
     ensures items { numbers.new.items ≡ numbers.old.items }
     ensures room { OnOk result (vec_len numbers.new + count ≤ vec_capacity numbers.new) }
 {
-    if numbers.is_empty() {
-        numbers.reserve_exact(count)?;
-    } else {
-        numbers.reserve(count)?;
+    if numbers.capacity() - numbers.len() < count {
+        numbers.reserve_exact(count.max(numbers.len() / 4))?;
     }
     Ok(())
 }
