@@ -80,10 +80,9 @@ fn words_are_counted_and_stopped_words_are_not(rt: HostRuntime) -> Result<(), Fa
     Ok(())
 }
 
-// The bytes of "cat" come to 312, and those of "dog" to 314: shards 8 and 10.
-#[test]
-fn documents_are_gathered_into_the_shards_of_their_terms(rt: HostRuntime) -> Result<(), Fail> {
-    let alloc = rt.alloc();
+// Shard 8 after two documents. The bytes of "cat" come to 312, and those of "dog" to 314: shards 8
+// and 10.
+fn shard_of_two(alloc: Global) -> Result<Item, OutOfMemory> {
     let mut totals = Totals::unit(alloc);
     let first = split(alloc, b"cat the dog cat", &mut totals)?;
     let second = split(alloc, b"dog cat", &mut totals)?;
@@ -95,6 +94,13 @@ fn documents_are_gathered_into_the_shards_of_their_terms(rt: HostRuntime) -> Res
         Some(&second),
         &mut totals,
     )?;
+    Ok(shard)
+}
+
+#[test]
+fn documents_are_gathered_into_the_shards_of_their_terms(rt: HostRuntime) -> Result<(), Fail> {
+    let alloc = rt.alloc();
+    let shard = shard_of_two(alloc)?;
     let copy = shard.copy(alloc)?;
     for shard in [&shard, &copy] {
         assert_eq!(rt; places(alloc, shard, "cat")?.as_str(), "1:1;1:4;3:2;");
