@@ -1,4 +1,5 @@
 pub mod Faults
 pub mod Files
+pub mod Ids
 pub mod Shelves
 pub mod Sinks
