@@ -4,3 +4,6 @@ pub mod SetsLemmas
 pub mod RefusalsLemmas
 pub mod RunsLemmas
 pub mod WorkedCases
+pub mod SequentialLemmas
+pub mod ProgramsLemmas
+pub mod WorkedPrograms

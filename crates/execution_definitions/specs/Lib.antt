@@ -4,3 +4,6 @@ pub mod Epochs
 pub mod Refusals
 pub mod Soundness
 pub mod Runs
+pub mod Meanings
+pub mod Sequential
+pub mod Programs

@@ -10,8 +10,10 @@
 //! crates of the calls that take or give them export them again.
 #![tactic(auto)]
 
+mod call;
 mod refusal;
 mod serializer;
 
+pub use call::{Call, Reply};
 pub use refusal::Refusal;
 pub use serializer::{By, Serializer};
