@@ -12,8 +12,8 @@ use Rattle.execution_definitions.specs.Sequential.{sequential_state}
 use Rattle.execution_definitions.specs.Programs.{sound_front, HasAnswered}
 
 -- an operation adds its number and the number read, and contributes the number that it finds
-meaning : Meaning ℕ ℕ ℕ
-meaning = record {
+adding : Meaning ℕ ℕ ℕ
+adding = record {
   step = λ value op read. (value + op + unwrap_or read 0, value);
   own = λ op. op;
   unit = 0;
@@ -29,14 +29,14 @@ calls =
     call.Get (object_id 0) ∷ call.End ∷ call.Total ∷ call.Write (object_id 1) 1 ∷ call.Total ∷ []
 
 -- 5 + 1 + 10, and then + 4; 5 and 16 are contributed
-state : sequential_state meaning (sound_front meaning calls)
+state : sequential_state adding (sound_front adding calls)
     ≡ record { values = 20 ∷ 10 ∷ []; total = 21 }
-unfolding meaning calls
+unfolding adding calls
 state = refl
 
-answered : HasAnswered meaning calls
+answered : HasAnswered adding calls
     (reply.Made (object_id 0) ∷ reply.Made (object_id 1) ∷ reply.Done ∷ reply.Sent (call_no 3) ∷
     reply.Done ∷ reply.Value 20 ∷ reply.Done ∷ reply.Total 21 ∷ [])
     (Some (ReadOnly (object_id 1)))
-unfolding meaning calls
+unfolding adding calls
 answered = record { replies = refl; stopped = refl }

@@ -17,3 +17,6 @@ mod serializer;
 pub use call::{Call, Reply};
 pub use refusal::Refusal;
 pub use serializer::{By, Serializer};
+
+#[cfg(test)]
+mod tests;
