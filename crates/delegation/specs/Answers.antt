@@ -3,11 +3,12 @@
 -- An accepted call goes on as the program does without delegates. A refused call changes nothing.
 -- After a want of memory every call is answered so.
 use Rattle.std.specs.Prelude.{◌≡◌, ℕ, zero, suc, true, false, Option, Some, None, Result, Ok, Err, List, [], ◌∷◌, ◌++◌, slice_get}
+use Rattle.ss_base.specs.Ids.{set_id}
 use Rattle.ss_base.specs.declared.ids.Run.{Run}
 use Rattle.ss_base.specs.declared.ids.SetId.{SetId}
 use Rattle.execution_definitions.specs.declared.refusal.Refusal.{Refusal}
 use Rattle.execution_definitions.specs.Sets.{lane_of_set}
-use Rattle.execution_definitions.specs.Refusals.{breaks, set_id}
+use Rattle.execution_definitions.specs.Refusals.{breaks}
 use Rattle.partition_check.specs.Marked.{mark_at, set_marked, set_delegated}
 use Rattle.partition_check.specs.Judged.{judged}
 use Rattle.partition_check.specs.MarkedAfter.{marked_after}

@@ -4,9 +4,9 @@
 -- whatever runs at the same time.
 use Rattle.std.specs.Prelude.{ℕ, ◌+◌, Option, Some, None, List, [], ◌∷◌, ◌++◌, length, fold, slice_get, slice_set}
 use Rattle.std.specs.Option.{option_map}
+use Rattle.ss_base.specs.Ids.{object_id}
 use Rattle.ss_base.specs.declared.ids.ObjectId.{ObjectId}
 use Rattle.ss_base.specs.declared.ids.CallNo.{CallNo}
-use Rattle.execution_definitions.specs.Refusals.{object_id}
 use Rattle.delegation.specs.declared.call.Call.{Call}
 use Rattle.delegation.specs.declared.call.Call.TheVariants.{Make, MakeFixed, Delegate, Write, Get, Total}
 use Rattle.delegation.specs.declared.call.Reply.{Reply}

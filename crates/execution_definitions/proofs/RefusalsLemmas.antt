@@ -5,13 +5,14 @@ use Rattle.std.specs.List.{filter_map, list_any}
 use Rattle.std.proofs.lemmas.Bool.Decides.{nat_tests}
 use Rattle.std.proofs.lemmas.List.Elements.{filter_map-append}
 use Rattle.std.proofs.lemmas.List.Folds.{list_any-append}
+use Rattle.ss_base.specs.Ids.{object_id}
 use Rattle.execution_definitions.specs.declared.refusal.Refusal.{Refusal}
 use Rattle.execution_definitions.specs.declared.refusal.Refusal.TheVariants.{UnknownObject}
 use Rattle.execution_definitions.specs.declared.serializer.Serializer.{Serializer}
 use Rattle.execution_definitions.specs.Shapes.{Shape, make, make_fixed, begin, delegate, write, get, end, total, is_begin, reads}
 use Rattle.execution_definitions.specs.Sets.{object_count, serializer_of}
 use Rattle.execution_definitions.specs.Epochs.{since, isolating, this_epoch}
-use Rattle.execution_definitions.specs.Refusals.{breaks, first_of, if_reading, unknown_object, object_id, set_if_to, sets_of}
+use Rattle.execution_definitions.specs.Refusals.{breaks, first_of, if_reading, unknown_object, set_if_to, sets_of}
 use Rattle.execution_definitions.specs.Soundness.{IsSound}
 use Rattle.execution_definitions.proofs.SoundnessLemmas.{kept_when_sound}
 use Rattle.execution_definitions.proofs.EpochsLemmas.{IsWithin, since-push, this_epoch-within, or-false}

@@ -1,11 +1,12 @@
 -- A small execution, computed: what the definitions say of it.
 use Rattle.std.proofs.Common.{◌≡◌, true, Some, None, List, [], ◌∷◌, refl}
+use Rattle.ss_base.specs.Ids.{object_id, set_id}
 use Rattle.execution_definitions.specs.declared.serializer.By.TheVariants.{Sequence, Own}
 use Rattle.execution_definitions.specs.declared.refusal.Refusal.TheVariants.{TwoSets}
 use Rattle.execution_definitions.specs.Shapes.{Shape, make, make_fixed, begin, delegate, end}
 use Rattle.execution_definitions.specs.Sets.{set_of}
 use Rattle.execution_definitions.specs.Epochs.{isolating, epoch_count}
-use Rattle.execution_definitions.specs.Refusals.{breaks, object_id, set_id}
+use Rattle.execution_definitions.specs.Refusals.{breaks}
 use Rattle.execution_definitions.specs.Soundness.{first_break}
 use Rattle.execution_definitions.specs.Runs.{sent, operations_of}
 

@@ -6,22 +6,13 @@
 -- `other_set` alone.
 use Rattle.std.specs.Prelude.{ℕ, ◌^◌, Bool, ◌&&◌, not, ◌==◌, nat_le, if◌then◌else◌, Option, Some, None, List, length, find, slice_get, is_none}
 use Rattle.std.specs.List.{filter_map, list_any}
-use Rattle.ss_base.specs.declared.ids.ObjectId.{ObjectId}
-use Rattle.ss_base.specs.declared.ids.SetId.{SetId}
+use Rattle.ss_base.specs.Ids.{object_id, set_id}
 use Rattle.execution_definitions.specs.declared.refusal.Refusal.{Refusal}
 use Rattle.execution_definitions.specs.declared.refusal.Refusal.TheVariants.{UnknownObject, NotIsolating, Isolating, ReadOnly, TwoSets, Shared, SelfRead, Private, TooManyObjects, TooManyCalls}
 use Rattle.execution_definitions.specs.declared.serializer.Serializer.{Serializer}
 use Rattle.execution_definitions.specs.Shapes.{Shape, make, make_fixed, begin, delegate, write, get, end, total, reads}
 use Rattle.execution_definitions.specs.Sets.{object_count, serializer_of, set_of, set_under}
 use Rattle.execution_definitions.specs.Epochs.{isolating, this_epoch}
-
--- the object of a number
-abbrev pub object_id : ℕ → ObjectId
-object_id number = record { 0 = number }
-
--- the set of a number
-abbrev pub set_id : ℕ → SetId
-set_id number = record { 0 = number }
 
 -- the earlier of two refusals in a row
 abbrev pub first_of : Option Refusal → Option Refusal → Option Refusal

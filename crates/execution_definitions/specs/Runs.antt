@@ -3,11 +3,11 @@
 -- A delegated call becomes one run: its place, its epoch, its set and its object. A lane gets the
 -- runs of its sets, in program order.
 use Rattle.std.specs.Prelude.{ℕ, Bool, ◌&&◌, ◌==◌, Option, Some, None, List, [], ◌∷◌, ◌++◌, length, filter, map, option_to_list}
+use Rattle.ss_base.specs.Ids.{object_id, set_id}
 use Rattle.ss_base.specs.declared.ids.Run.{Run}
 use Rattle.execution_definitions.specs.Shapes.{Shape, delegate}
 use Rattle.execution_definitions.specs.Sets.{set_of, lane_of_set}
 use Rattle.execution_definitions.specs.Epochs.{epoch_count}
-use Rattle.execution_definitions.specs.Refusals.{object_id, set_id}
 
 -- the run of a call after these calls; none where it delegates nothing
 abbrev pub run_of : List Shape → Shape → Option Run

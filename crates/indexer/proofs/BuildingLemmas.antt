@@ -8,10 +8,10 @@ use Rattle.std.proofs.lemmas.Option.{same_Some}
 use Rattle.std.proofs.lemmas.Bool.{cases_Bool}
 use Rattle.std.proofs.lemmas.Grind.{flat_map-append}
 use Rattle.std.proofs.lemmas.List.{take_more, length-append, length-map, map-append}
+use Rattle.ss_base.specs.Ids.{object_id}
 use Rattle.execution_definitions.specs.declared.serializer.By.{By}
 use Rattle.execution_definitions.specs.declared.serializer.By.TheVariants as by
 use Rattle.execution_definitions.specs.Shapes.{make, delegate}
-use Rattle.execution_definitions.specs.Refusals.{object_id}
 use Rattle.ss_base.specs.declared.ids.ObjectId.{ObjectId}
 use Rattle.partition_check.specs.Judged.{judged}
 use Rattle.partition_check.specs.Marked.{Marked}

@@ -8,13 +8,14 @@ use Rattle.std.proofs.lemmas.Bool.{cases_Bool}
 use Rattle.std.proofs.lemmas.Bool.Decides.{nat_tests}
 use Rattle.std.proofs.lemmas.List.{length-append, length-map}
 use Rattle.std.proofs.lemmas.Option.{slice_get-map, slice_get-get_or}
+use Rattle.ss_base.specs.Ids.{object_id, set_id}
 use Rattle.ss_base.specs.declared.ids.SetId.{SetId}
 use Rattle.execution_definitions.specs.declared.refusal.Refusal.TheVariants.{TwoSets}
 use Rattle.execution_definitions.specs.declared.serializer.By.{By}
 use Rattle.execution_definitions.specs.declared.serializer.Serializer.{Serializer}
 use Rattle.execution_definitions.specs.Shapes.{make, make_fixed, begin, delegate, end, total, get}
 use Rattle.execution_definitions.specs.Sets.{set_by, set_under}
-use Rattle.execution_definitions.specs.Refusals.{object_id, set_id, refuse_if}
+use Rattle.execution_definitions.specs.Refusals.{refuse_if}
 use Rattle.partition_check.specs.declared.mark.Mark.{Mark}
 use Rattle.partition_check.specs.Marked.{Marked, mark_at}
 use Rattle.partition_check.specs.Judged.{judged, two_sets_in, held_in}

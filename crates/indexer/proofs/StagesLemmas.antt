@@ -6,10 +6,10 @@ use Rattle.std.specs.Prelude.{slice_get, slice_set, ◌==◌, IfOk, OnOk}
 use Rattle.std.proofs.lemmas.Bool.{cases_Bool}
 use Rattle.std.proofs.lemmas.Bool.Decides.{nat_tests}
 use Rattle.std.proofs.lemmas.List.{length-append}
+use Rattle.ss_base.specs.Ids.{object_id}
 use Rattle.ss_base.specs.declared.text.OutOfMemory.{OutOfMemory}
 use Rattle.execution_definitions.specs.declared.refusal.Refusal.{Refusal}
 use Rattle.execution_definitions.specs.declared.serializer.By.TheVariants as by
-use Rattle.execution_definitions.specs.Refusals.{object_id}
 use Rattle.partition_check.specs.Judged.{judged}
 use Rattle.delegation.specs.declared.call.Call.{Call}
 use Rattle.delegation.specs.declared.call.Call.TheVariants as call

@@ -6,9 +6,9 @@ use Rattle.std.specs.Prelude.{◌≡◌, ℕ, zero, suc, ◌+◌, ◌<◌, ◌�
 use Rattle.std.specs.Prelude.{Option, Some, None, IsSome, List, [], length, take, slice_get}
 use Rattle.std.specs.Prelude.{if◌then◌else◌}
 use Rattle.std.specs.List.{slice_index_or, flat_map}
+use Rattle.ss_base.specs.Ids.{set_id}
 use Rattle.execution_definitions.specs.declared.serializer.Serializer.{Serializer}
 use Rattle.execution_definitions.specs.Sets.{set_by}
-use Rattle.execution_definitions.specs.Refusals.{set_id}
 use Rattle.partition_check.specs.declared.mark.Mark.{Mark}
 use Rattle.partition_check.specs.Marked.{Marked, mark_at}
 use Rattle.delegation.specs.Sequential.{State}

@@ -4,13 +4,14 @@ use Rattle.std.specs.Prelude.{slice_get, find, ◌==◌, if◌then◌else◌}
 use Rattle.std.proofs.lemmas.Bool.{eqb-true}
 use Rattle.std.proofs.lemmas.Grind.{common_steps}
 use Rattle.std.proofs.lemmas.Option.{slice_get_past}
+use Rattle.ss_base.specs.Ids.{object_id, set_id}
 use Rattle.ss_base.specs.declared.ids.SetId.{SetId}
 use Rattle.execution_definitions.specs.declared.refusal.Refusal.{Refusal}
 use Rattle.execution_definitions.specs.declared.refusal.Refusal.TheVariants.{UnknownObject, TwoSets}
 use Rattle.execution_definitions.specs.declared.serializer.By.{By}
 use Rattle.execution_definitions.specs.Shapes.{Shape, delegate, write}
 use Rattle.execution_definitions.specs.Sets.{makers, set_of, set_under}
-use Rattle.execution_definitions.specs.Refusals.{breaks, unknown_object, first_of, refuse_if, if_reading, object_id, set_id, is_fixed, sets_of, two_sets_if, private_if, private_object}
+use Rattle.execution_definitions.specs.Refusals.{breaks, unknown_object, first_of, refuse_if, if_reading, is_fixed, sets_of, two_sets_if, private_if, private_object}
 use Rattle.partition_check.specs.declared.mark.Mark.{Mark}
 use Rattle.partition_check.specs.Marked.{Marked, mark_at, set_marked}
 use Rattle.partition_check.specs.Judged.{judged_make, judged_write, judged_delegate, two_sets_in, held_in, private_in, private_read, unknown_if, unknown_read}

@@ -3,11 +3,12 @@ use Rattle.std.proofs.Common.{eq-eqb, ◌≡◌, ℕ, ◌<◌, ◌≤◌, Bool, 
 use Rattle.std.specs.Prelude.{find, ◌==◌, if◌then◌else◌, is_some, is_none}
 use Rattle.std.specs.List.{filter_map, list_any}
 use Rattle.std.proofs.lemmas.Bool.{eqb-true}
+use Rattle.ss_base.specs.Ids.{set_id}
 use Rattle.execution_definitions.specs.declared.serializer.Serializer.{Serializer}
 use Rattle.execution_definitions.specs.Shapes.{Shape, delegate, makes_object, reads}
 use Rattle.execution_definitions.specs.Sets.{object_count, serializer_of, set_of}
 use Rattle.execution_definitions.specs.Epochs.{isolating, this_epoch}
-use Rattle.execution_definitions.specs.Refusals.{set_if_to, sets_of, is_fixed, is_read_shared, two_sets_if, set_id}
+use Rattle.execution_definitions.specs.Refusals.{set_if_to, sets_of, is_fixed, is_read_shared, two_sets_if}
 use Rattle.execution_definitions.specs.Soundness.{IsSound}
 use Rattle.execution_definitions.proofs.EpochsLemmas.{IsWithin, or-false}
 use Rattle.execution_definitions.proofs.SetsLemmas.{serializer_of-kept}

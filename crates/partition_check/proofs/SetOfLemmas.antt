@@ -3,8 +3,8 @@ use Rattle.std.proofs.Common.{◌≡◌, ℕ, zero, suc, not, ◌↔◌, Option,
 use Rattle.std.specs.Prelude.{Contains, find, ◌==◌}
 use Rattle.std.proofs.lemmas.Option.{same_Some}
 use Rattle.std.proofs.lemmas.List.Elements.{Contains-append_right, Contains-append_cases}
+use Rattle.ss_base.specs.Ids.{set_id}
 use Rattle.ss_base.specs.declared.ids.SetId.{SetId}
-use Rattle.execution_definitions.specs.Refusals.{set_id}
 
 -- each number of the list is this one
 abbrev pub EachIs : ℕ → List ℕ → Type 0

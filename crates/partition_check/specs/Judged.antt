@@ -3,11 +3,12 @@
 -- The rows are those of `breaks`: the refusals of a call are tried in this order, and the first
 -- that holds is the answer.
 use Rattle.std.specs.Prelude.{ℕ, not, ◌==◌, if◌then◌else◌, is_none, Option, Some, None, length}
+use Rattle.ss_base.specs.Ids.{object_id, set_id}
 use Rattle.ss_base.specs.declared.ids.SetId.{SetId}
 use Rattle.execution_definitions.specs.declared.refusal.Refusal.{Refusal}
 use Rattle.execution_definitions.specs.declared.refusal.Refusal.TheVariants.{UnknownObject, NotIsolating, Isolating, ReadOnly, TwoSets, Shared, Private}
 use Rattle.execution_definitions.specs.Shapes.{Shape, make, make_fixed, begin, delegate, write, get, end, total}
-use Rattle.execution_definitions.specs.Refusals.{object_id, set_id, first_of, refuse_if, if_reading, self_read, too_many_objects, too_many_calls}
+use Rattle.execution_definitions.specs.Refusals.{first_of, refuse_if, if_reading, self_read, too_many_objects, too_many_calls}
 use Rattle.partition_check.specs.declared.mark.Mark.{Mark}
 use Rattle.partition_check.specs.Marked.{Marked, mark_at, set_marked}
 

@@ -1,11 +1,11 @@
 -- What are the marks after one accepted call more?
 use Rattle.std.specs.Prelude.{ℕ, zero, suc, ◌+◌, ◌<◌, true, false, is_some, length, Option, Some, None, List, [], ◌∷◌, ◌++◌, map}
+use Rattle.ss_base.specs.Ids.{set_id}
 use Rattle.execution_definitions.specs.declared.serializer.By.{By}
 use Rattle.execution_definitions.specs.declared.serializer.By.TheVariants.{Sequence}
 use Rattle.execution_definitions.specs.declared.serializer.Serializer.{Serializer}
 use Rattle.execution_definitions.specs.Shapes.{Shape, make, make_fixed, begin, delegate, end}
 use Rattle.execution_definitions.specs.Sets.{serializer_by, set_under}
-use Rattle.execution_definitions.specs.Refusals.{set_id}
 use Rattle.partition_check.specs.declared.mark.Mark.{Mark}
 use Rattle.partition_check.specs.Marked.{Marked}
 

@@ -5,8 +5,8 @@ use Rattle.std.specs.Prelude.{ℕ, List, codes, if◌then◌else◌, Some, None,
 use Rattle.std.specs.declared.option.Option.{Option}
 use Rattle.std.specs.Option.{option_map, ok_or, is_some}
 use Rattle.std.specs.Str.{bytes_eq}
+use Rattle.ss_base.specs.Ids.{object_id}
 use Rattle.ss_base.specs.declared.ids.ObjectId.{ObjectId}
-use Rattle.execution_definitions.specs.Refusals.{object_id}
 use Rattle.script_lang.specs.declared.fault.ScriptKind.{ScriptKind}
 use Rattle.script_lang.specs.declared.fault.ScriptKind.TheVariants.{BadName, NameTaken}
 use Rattle.script_lang.specs.declared.fault.ScriptKind.TheVariants.{NameUnknown, BadNumber}
