@@ -1,8 +1,11 @@
+pub mod ListLemmas
 pub mod SoundnessLemmas
 pub mod EpochsLemmas
 pub mod SetsLemmas
+pub mod HeldLemmas
 pub mod RefusalsLemmas
 pub mod RunsLemmas
+pub mod LawsLemmas
 pub mod WorkedCases
 pub mod SequentialLemmas
 pub mod ProgramsLemmas

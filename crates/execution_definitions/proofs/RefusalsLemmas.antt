@@ -1,22 +1,23 @@
--- What an epoch's delegations hold an object to, one call more at a time.
-use Rattle.std.proofs.Common.{◌≡◌, ℕ, ◌<◌, ◌≤◌, Bool, true, false, ◌||◌, ◌&&◌, cond, Option, Some, None, List, [], ◌∷◌, ◌++◌, refl, arith}
+-- What a row of refusals tells of a call that isn't refused.
+use Rattle.std.proofs.Common.{◌≡◌, ℕ, ◌<◌, ◌≤◌, Bool, true, false, ◌∙◌, ⊎_elim, cond, Option, Some, None, List, [], ◌∷◌, ◌++◌, refl, arith}
 use Rattle.std.specs.Prelude.{if◌then◌else◌, ◌==◌, nat_le}
-use Rattle.std.specs.List.{filter_map, list_any}
+use Rattle.std.specs.List.{list_any}
 use Rattle.std.proofs.lemmas.Bool.Decides.{nat_tests}
-use Rattle.std.proofs.lemmas.List.Elements.{filter_map-append}
 use Rattle.std.proofs.lemmas.List.Folds.{list_any-append}
 use Rattle.ss_base.specs.Ids.{object_id}
 use Rattle.execution_definitions.specs.declared.refusal.Refusal.{Refusal}
 use Rattle.execution_definitions.specs.declared.refusal.Refusal.TheVariants.{UnknownObject}
 use Rattle.execution_definitions.specs.declared.serializer.Serializer.{Serializer}
 use Rattle.execution_definitions.specs.Shapes.{Shape, make, make_fixed, begin, delegate, write, get, end, total, is_begin, reads}
-use Rattle.execution_definitions.specs.Sets.{object_count, serializer_of}
+use Rattle.execution_definitions.specs.Sets.{object_count}
 use Rattle.execution_definitions.specs.Epochs.{since, isolating, this_epoch}
-use Rattle.execution_definitions.specs.Refusals.{breaks, first_of, if_reading, unknown_object, set_if_to, sets_of}
+use Rattle.execution_definitions.specs.Held.{frees, later_set, last_set_among}
+use Rattle.execution_definitions.specs.Refusals.{breaks, first_of, if_reading, unknown_object}
 use Rattle.execution_definitions.specs.Soundness.{IsSound}
 use Rattle.execution_definitions.proofs.SoundnessLemmas.{kept_when_sound}
-use Rattle.execution_definitions.proofs.EpochsLemmas.{IsWithin, since-push, this_epoch-within, or-false}
-use Rattle.execution_definitions.proofs.SetsLemmas.{object_count_grows, serializer_of-kept}
+use Rattle.execution_definitions.proofs.EpochsLemmas.{since-push}
+use Rattle.execution_definitions.proofs.SetsLemmas.{object_count_grows}
+use Rattle.execution_definitions.proofs.HeldLemmas.{last_set_among-push, held_or_last}
 
 -- where a row refuses nothing, none of its refusals holds
 pub first_of-none : (first later : Option Refusal) → first_of first later ≡ None →
@@ -35,18 +36,23 @@ known calls object none = by_test (nat_le (object_count calls) object) refl none
 
 -- since the last begin nothing was delegated to an object, and nothing read it
 record IsUntouched (calls : List Shape) (object : ℕ) : Type 0 where
-  no_set : (s : Option Serializer) → filter_map (set_if_to s object) (since is_begin calls) ≡ []
+  no_set : (s : Option Serializer) → last_set_among s object (since is_begin calls) ≡ None
   no_read : list_any (reads object) (since is_begin calls) ≡ false
 
 -- a call leaves an object alone that it neither names nor reads
 untouched-push : (calls : List Shape) (call : Shape) (object : ℕ) → is_begin call ≡ false →
-    ((s : Option Serializer) → set_if_to s object call ≡ None) → reads object call ≡ false →
+    ((s : Option Serializer) → later_set s object None call ≡ None) → reads object call ≡ false →
     IsUntouched calls object → IsUntouched (calls ++ call ∷ []) object
 untouched-push calls call object no_begin no_set no_read before = record {
   no_set = λ s.
       let none = no_set s in
       let old = before.no_set s in
-      rw (since-push is_begin calls call, no_begin, filter_map-append, old, none) refl;
+      rw (
+        since-push is_begin calls call,
+        no_begin,
+        last_set_among-push s object (since is_begin calls) call,
+        old,
+      ) none;
   no_read =
       let old = before.no_read in
       rw (since-push is_begin calls call, no_begin, list_any-append, old, no_read) refl;
@@ -122,13 +128,22 @@ this_epoch_of true xs f a some none = some
 this_epoch_of false xs f a some none = none
 
 -- in a sound list nothing was delegated to a number that no object has
-pub sets_of-past : (calls : List Shape) → IsSound calls → (object : ℕ) →
+pub last_set-past : (calls : List Shape) → IsSound calls → (object : ℕ) →
     object_count calls ≤ object →
-    (s : Option Serializer) → filter_map (set_if_to s object) (this_epoch calls) ≡ []
+    (s : Option Serializer) → last_set_among s object (this_epoch calls) ≡ None
 unfolding IsUntouchedPast
-sets_of-past calls sound object past s =
-    this_epoch_of (isolating calls) (since is_begin calls) (filter_map (set_if_to s object)) []
+last_set-past calls sound object past s =
+    this_epoch_of (isolating calls) (since is_begin calls) (last_set_among s object) None
     ((untouched_past calls sound object past).no_set s) refl
+
+-- so it isn't held
+pub held_set-past : (calls : List Shape) → IsSound calls → (object : ℕ) →
+    object_count calls ≤ object →
+    (s : Option Serializer) → last_set_among s object (since (frees object) (this_epoch calls)) ≡ None
+held_set-past calls sound object past s = ⊎_elim
+    (λ none. none)
+    (λ last. last ∙ last_set-past calls sound object past s)
+    (held_or_last s object (this_epoch calls))
 
 -- and nothing read it
 pub reads-past : (calls : List Shape) → IsSound calls → (object : ℕ) → object_count calls ≤ object →
@@ -137,42 +152,3 @@ unfolding IsUntouchedPast
 reads-past calls sound object past =
     this_epoch_of (isolating calls) (since is_begin calls) (list_any (reads object)) false
     (untouched_past calls sound object past).no_read refl
-
--- the sets of an object under a given serializer, one call more
-pub sets_under-push : (calls : List Shape) (call : Shape) (s : Option Serializer) (object : ℕ) →
-    IsWithin call →
-    filter_map (set_if_to s object) (this_epoch (calls ++ call ∷ [])) ≡
-    filter_map (set_if_to s object) (this_epoch calls) ++
-    (if isolating calls then filter_map (set_if_to s object) (call ∷ []) else [])
-sets_under-push calls call s object within =
-    rw (this_epoch-within calls call within) (by_case (isolating calls)) where
-      by_case : (open_ : Bool) →
-          filter_map (set_if_to s object)
-          (if open_ then (since is_begin calls ++ call ∷ []) else []) ≡
-          filter_map (set_if_to s object) (if open_ then (since is_begin calls) else []) ++
-          (if open_ then filter_map (set_if_to s object) (call ∷ []) else [])
-      by_case true = filter_map-append (set_if_to s object) (since is_begin calls) (call ∷ [])
-      by_case false = refl
-
--- the sets of an object, one call more
-pub sets_of-push : (calls : List Shape) (call : Shape) (object : ℕ) → IsWithin call →
-    object < object_count calls →
-    sets_of (calls ++ call ∷ []) object ≡ sets_of calls object ++
-    (if isolating calls then filter_map (set_if_to (serializer_of calls object) object)
-    (call ∷ []) else [])
-sets_of-push calls call object within inside =
-    rw (serializer_of-kept calls call object inside)
-    (sets_under-push calls call (serializer_of calls object) object within)
-
--- the readers of an object, one call more
-pub reads-push : (calls : List Shape) (call : Shape) (object : ℕ) → IsWithin call →
-    list_any (reads object) (this_epoch (calls ++ call ∷ [])) ≡
-    (list_any (reads object) (this_epoch calls) || (isolating calls && reads object call))
-reads-push calls call object within =
-    rw (this_epoch-within calls call within) (by_case (isolating calls)) where
-      by_case : (open_ : Bool) →
-          list_any (reads object) (if open_ then (since is_begin calls ++ call ∷ []) else []) ≡
-          (list_any (reads object) (if open_ then (since is_begin calls) else []) ||
-          (open_ && reads object call))
-      by_case true = rw (list_any-append, or-false (reads object call)) refl
-      by_case false = refl

@@ -1,28 +1,14 @@
 -- The objects' serializers, one call more at a time.
-use Rattle.std.proofs.Common.{◌≡◌, ℕ, ◌+◌, ◌<◌, ◌≤◌, Bool, true, false, cond, Some, List, [], ◌∷◌, ◌++◌, length, fold, take, add-zero, refl, ap, zero, suc, arith, append-nil, length-append}
-use Rattle.std.specs.Prelude.{slice_get, count_by, filter}
+use Rattle.std.proofs.Common.{◌≡◌, ℕ, ◌+◌, ◌<◌, ◌≤◌, Bool, true, false, cond, Some, List, [], ◌∷◌, ◌++◌, length, fold, add-zero, refl, ap, arith, append-nil, length-append}
+use Rattle.std.specs.Prelude.{count_by, filter}
+use Rattle.std.proofs.Math.Seq.{take-append_seam}
 use Rattle.std.proofs.lemmas.List.{take-append-le}
 use Rattle.std.proofs.lemmas.List.Elements.{filter-append}
 use Rattle.std.proofs.lemmas.List.Sums.{length-filter}
 use Rattle.execution_definitions.specs.Shapes.{Shape, make, make_fixed, begin, delegate, write, get, end, total, makes_object, makes_by_sequence}
 use Rattle.execution_definitions.specs.Sets.{makers, object_count, serializer_made, serializer_of}
+use Rattle.execution_definitions.proofs.ListLemmas.{slice_get-front, slice_get-append_seam}
 use Rattle.execution_definitions.proofs.EpochsLemmas.{count_by-push}
-
--- an element of the front of a list
-slice_get-front : {A : Type 0} (xs ys : List A) (i : ℕ) → i < length xs →
-    slice_get (xs ++ ys) i ≡ slice_get xs i
-slice_get-front [] ys i inside = absurd (omega arith)
-slice_get-front (x ∷ xs) ys zero inside = refl
-slice_get-front (x ∷ xs) ys (suc i) inside = slice_get-front xs ys i (omega arith)
-
--- the last element of a list
-slice_get-push : {A : Type 0} (xs : List A) (x : A) → slice_get (xs ++ x ∷ []) (length xs) ≡ Some x
-slice_get-push [] x = refl
-slice_get-push (first ∷ xs) x = slice_get-push xs x
-
-take-all : {A : Type 0} (xs ys : List A) → take (length xs) (xs ++ ys) ≡ xs
-take-all [] ys = refl
-take-all (x ∷ xs) ys = ap (λ rest. x ∷ rest) (take-all xs ys)
 
 pub makers-push : (calls : List Shape) (call : Shape) →
     makers (calls ++ call ∷ []) ≡ makers calls ++ filter makes_object (call ∷ [])
@@ -115,7 +101,7 @@ pub serializer_of-made : (calls : List Shape) (call : Shape) → makes_object ca
 serializer_of-made calls call made =
     rw (
       makers-made calls call made,
-      slice_get-push (makers calls) call,
-      take-all (makers calls) (call ∷ []),
+      slice_get-append_seam (makers calls) call [],
+      take-append_seam (makers calls) (call ∷ []),
       count_by-makers calls,
     ) refl

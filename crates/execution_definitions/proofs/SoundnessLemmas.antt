@@ -1,9 +1,11 @@
 -- Sound lists, one call more at a time.
 use Rattle.std.proofs.Common.{◌≡◌, ℕ, Option, Some, None, List, [], ◌∷◌, ◌++◌, length, refl, subst, append_assoc, append-nil}
+use Rattle.std.proofs.Math.Seq.{take-append_seam}
 use Rattle.execution_definitions.specs.declared.refusal.Refusal.{Refusal}
 use Rattle.execution_definitions.specs.Shapes.{Shape}
 use Rattle.execution_definitions.specs.Refusals.{breaks}
-use Rattle.execution_definitions.specs.Soundness.{IsSound, first_break, first_break_after, first_refusal, first_refusal_after, place_or}
+use Rattle.execution_definitions.specs.Soundness.{IsSound, first_break, first_break_after, first_refusal, place_or}
+use Rattle.execution_definitions.proofs.ListLemmas.{slice_get-append_seam}
 
 -- what follows where neither a place nor a later one is there
 place_or-none : {A : Type 0} (cause : Option Refusal) (place : ℕ) (later : Option ℕ) →
@@ -68,31 +70,17 @@ pub first_break-at : (calls : List Shape) (call : Shape) (rest : List Shape) (re
 first_break-at calls call rest refusal sound broken =
     first_break_after-at [] calls call rest refusal sound broken
 
-first_refusal_after-at : (before calls : List Shape) (call : Shape) (rest : List Shape)
-    (refusal : Refusal) → first_break_after before calls ≡ None →
-    breaks (before ++ calls) call ≡ Some refusal →
-    first_refusal_after before (calls ++ call ∷ rest) ≡ Some refusal
-first_refusal_after-at before [] call rest refusal sound broken =
-    rw (rw append-nil at broken) refl
-first_refusal_after-at before (first ∷ later) call rest refusal sound broken =
-    place_or-none (breaks before first) _ _ sound (λ fits no_later.
-    rw fits (first_refusal_after-at (before ++ first ∷ []) later call rest
-    refusal no_later (rw append_assoc broken)))
-
 -- and its refusal is the first
 pub first_refusal-at : (calls : List Shape) (call : Shape) (rest : List Shape)
     (refusal : Refusal) → IsSound calls → breaks calls call ≡ Some refusal →
     first_refusal (calls ++ call ∷ rest) ≡ Some refusal
 first_refusal-at calls call rest refusal sound broken =
-    first_refusal_after-at [] calls call rest refusal sound broken
-
-first_refusal_after-sound : (before calls : List Shape) → first_break_after before calls ≡ None →
-    first_refusal_after before calls ≡ None
-first_refusal_after-sound before [] sound = refl
-first_refusal_after-sound before (first ∷ later) sound =
-    place_or-none (breaks before first) _ _ sound (λ fits no_later.
-    rw fits (first_refusal_after-sound (before ++ first ∷ []) later no_later))
+    rw (
+      first_break-at calls call rest refusal sound broken,
+      take-append_seam calls (call ∷ rest),
+      slice_get-append_seam calls call rest,
+    ) broken
 
 -- a sound list has no refusal
 pub first_refusal-sound : (calls : List Shape) → IsSound calls → first_refusal calls ≡ None
-first_refusal-sound calls sound = first_refusal_after-sound [] calls sound
+first_refusal-sound calls sound = rw sound refl

@@ -1,9 +1,11 @@
 pub mod Shapes
 pub mod Sets
 pub mod Epochs
+pub mod Held
 pub mod Refusals
 pub mod Soundness
 pub mod Runs
 pub mod Meanings
 pub mod Sequential
 pub mod Programs
+pub mod Laws

@@ -11,10 +11,12 @@
 #![tactic(auto)]
 
 mod call;
+mod laws;
 mod refusal;
 mod serializer;
 
 pub use call::{Call, Reply};
+pub use laws::{an_epoch_is_open_from_its_begin, the_first_break_is_the_least};
 pub use refusal::Refusal;
 pub use serializer::{By, Serializer};
 

@@ -19,12 +19,13 @@ pub enum Refusal {
     /// The object was made to be read alone.
     #[error("object {} is read-only", .0.0)]
     ReadOnly(ObjectId),
-    /// In this epoch the object was delegated to another set.
+    /// In this epoch the object is held to another set: that of its last delegation, after which
+    /// the program context neither wrote it nor got it.
     #[error("object {} is in set {}, not in set {}", .object.0, .first.0, .second.0)]
     TwoSets {
-        /// The object that was delegated to.
+        /// The object that is held.
         object: ObjectId,
-        /// The set of the earlier delegation.
+        /// The set that it is held to.
         first: SetId,
         /// The set of the call that is refused.
         second: SetId,
@@ -35,12 +36,12 @@ pub enum Refusal {
     /// The operation would read the object that it is delegated to.
     #[error("object {} reads itself", .0.0)]
     SelfRead(ObjectId),
-    /// In this epoch the object to be read was delegated to, and it is writable.
+    /// In this epoch the object to be read is held to a set, and it is writable.
     #[error("object {} is private to set {}", .object.0, .set.0)]
     Private {
         /// The object to be read.
         object: ObjectId,
-        /// The set of that delegation.
+        /// The set that it is held to.
         set: SetId,
     },
     /// 1,048,576 objects were made.
