@@ -1,10 +1,11 @@
 -- A name's place among the files of a shelf in memory, and what is left of a file.
 use Rattle.std.proofs.Common.{◌≡◌, ℕ, ◌<◌, ◌≤◌, Bool, true, false, cond, List, [], ◌∷◌, drop}
-use Rattle.std.proofs.Common.{length, get_or, Some, None, refl, ap, sym, ◌∙◌}
+use Rattle.std.proofs.Common.{length, get_or, Some, None, inl, inr, refl, ap, sym, ◌∙◌, arith}
 use Rattle.std.proofs.lemmas.List.{drop_all}
 use Rattle.std.proofs.lemmas.List.Folds.{find_at}
 use Rattle.std.proofs.lemmas.List.Quantifiers.{position-Some}
-use Rattle.std.proofs.lemmas.Option.{slice_get-get_or, slice_get_read}
+use Rattle.std.proofs.lemmas.Option.{slice_get-get_or, slice_get_cases, slice_get_read}
+use Rattle.std.proofs.lemmas.Bool.Decides.{nat_tests}
 use Rattle.std.specs.Global.{Vec}
 use Rattle.std.specs.List.{position_or_len}
 use Rattle.std.specs.Option.{option_map}
@@ -40,6 +41,21 @@ bytes_of-place files name i is =
       ap (option_map (λ f. f.1.items)) found.1,
       ap (option_map (λ f. drop 0 f.1.items)) found.2,
     )
+
+-- what no element passes isn't found
+find-None : {X : Type 0} (p : X → Bool) (xs : List X) → position p xs ≡ None → find p xs ≡ None
+find-None p xs is =
+    elim ((slice_get_cases xs (position_or_len p xs)).1) [
+      | inl at_place ↦ grind (arith, nat_tests, at_place.1)
+      | inr past ↦ find_at p xs ∙ past.1
+    ]
+
+-- a name that has no place isn't there
+pub bytes_of-absent :
+    (files : List (List ℕ × Vec ℕ)) (name : List ℕ)
+    → position (λ f. bytes_eq f.0 name) files ≡ None → bytes_of files name ≡ None
+bytes_of-absent files name is =
+    ap (option_map (λ f. f.1.items)) (find-None (λ f. bytes_eq f.0 name) files is)
 
 -- nothing is left past a file's end
 pub rest_at-past :

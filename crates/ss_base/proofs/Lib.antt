@@ -1,2 +1,3 @@
 pub mod FilesLemmas
+pub mod ShelvesLemmas
 pub mod SinksLemmas

@@ -2,7 +2,7 @@
 --
 -- Each part of the outside counts its faults. A call that answers a fault shows a count that rose in
 -- that very call, so that nothing above can blame the outside for what it did itself.
-use Rattle.std.specs.Prelude.{ℕ, ◌+◌, ◌-◌, ◌^◌, ◌≤◌, min, Result, OnErr}
+use Rattle.std.specs.Prelude.{◌≡◌, ℕ, ◌+◌, ◌-◌, ◌^◌, ◌≤◌, min, Result, IsOk, OnErr}
 
 -- a count of faults rose. One that stands at its type's end stays there, and counts as risen
 abbrev pub Rose : ℕ → ℕ → Type 0
@@ -12,3 +12,7 @@ Rose before now = min (before + 1) (2 ^ 64 - 1) ≤ now
 pub record HasCause {T E : Type 0} (before now : ℕ) (result : Result T E) : Type 0 where
   pub never_falls : before ≤ now
   pub failed : OnErr result (Rose before now)
+
+-- no fault is answered, and none is counted
+abbrev pub HasNoFault : {T E : Type 0} → ℕ → ℕ → Result T E → Type 0
+HasNoFault before now result = IsOk result × (now ≡ before)

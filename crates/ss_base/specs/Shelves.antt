@@ -3,13 +3,32 @@
 -- A shelf that tells its contents gives just these bytes, from the front, each once. One that tells
 -- nothing is bound by its count of faults alone, and each word below then holds.
 use Rattle.std.specs.Prelude.{◌≡◌, ℕ, ◌+◌, Bool, true, false, List, [], ◌++◌, length, take, ⊤}
-use Rattle.std.specs.Prelude.{Some, None, Result, MatchResult}
+use Rattle.std.specs.Prelude.{Some, None, IsSome, IsSomeAnd, IsTrue, is_some, if◌then◌else◌}
+use Rattle.std.specs.Prelude.{option_and_then, Result, MatchResult}
+use Rattle.std.specs.List.{last_or}
 use Rattle.std.specs.declared.option.Option.{Option}
 use Rattle.std.specs.Io.KnownBytes.{Consumes, IsAtEnd}
 
 -- the bytes under each name, and none under a name that isn't there
 abbrev pub Contents : Type 0
 Contents = List ℕ → Option (List ℕ)
+
+-- the contents are told, and hold the name
+abbrev pub IsHeld : Option Contents → List ℕ → Type 0
+IsHeld contents name = IsSomeAnd contents (λ told. IsSome (told name))
+
+-- the contents are told, and the shelf fails only where an absent name is opened
+abbrev pub IsSteady : Option Contents → Bool → Type 0
+IsSteady contents fails_only_if_absent = IsSome contents × IsTrue fails_only_if_absent
+
+-- the name, where these contents hold it
+abbrev pub name_held : Contents → List ℕ → Option (List ℕ)
+name_held contents name = if is_some (contents name) then (Some name) else None
+
+-- the name that was asked for last, where the contents are told and hold it
+abbrev pub last_name : Option Contents → List (List ℕ) → Option (List ℕ)
+last_name contents asked =
+    option_and_then (λ told. option_and_then (name_held told) (last_or None asked)) contents
 
 -- a name is open after Ok alone
 abbrev pub IsOpenAfter : {T E : Type 0} → Result T E → Bool → Type 0

@@ -1,6 +1,7 @@
 //! The types that every crate shares, and the outside: what is read from and written to.
 #![tactic(auto)]
 
+mod asked;
 mod calls;
 mod ids;
 mod mem_shelf;
@@ -9,6 +10,7 @@ mod outside;
 mod text;
 mod transfer;
 
+pub use asked::Asked;
 pub use ids::{CallNo, Event, Lane, LaneLog, ObjectId, Run, SetId};
 pub use mem_shelf::MemShelf;
 pub use mem_sink::MemSink;

@@ -1,12 +1,13 @@
 // A shelf in memory, with calls that fail as listed.
-ghost use Rattle.std.specs.Prelude.{◌≡◌, ◌+◌, ◌<◌, ◌≤◌, ◌^◌, Some, IfSome, length, position, drop};
+ghost use Rattle.std.specs.Prelude.{◌≡◌, ◌+◌, ◌<◌, ◌≤◌, ◌^◌, [], Some, IfSome, length, position, drop};
 ghost use Rattle.std.specs.Option.{option_copied};
 ghost use Rattle.std.specs.Str.{bytes_eq};
+ghost use Rattle.ss_base.specs.Calls.{fails_none};
 ghost use Rattle.ss_base.specs.Files.{bytes_of, rest_at};
 ghost use Rattle.ss_base.specs.Shelves.{Gives};
 
 use crate::calls::Calls;
-use crate::{Failed, Shelf, Text};
+use crate::{Asked, Failed, Shelf, Text};
 
 /// Files in memory. It tells its contents.
 ///
@@ -21,6 +22,7 @@ pub struct MemShelf {
     is_open: bool,
     place: usize,
     taken: usize,
+    asked: Asked,
     ghost gives_some: { 0 < chunk },
 }
 
@@ -29,7 +31,9 @@ impl MemShelf {
     /// of the calls that fail, and `chunk` is the most bytes that a read gives.
     pub fn new(files: Vec<(Text, Vec<u8>)>, fail: Vec<u64>, chunk: usize) -> MemShelf
         requires { 0 < chunk }
-        ensures { ⟦<MemShelf as Shelf>⟧.contents result ≡ Some (bytes_of files.items) }
+        ensures contents { ⟦<MemShelf as Shelf>⟧.contents result ≡ Some (bytes_of files.items) }
+        ensures asked { ⟦<MemShelf as Shelf>⟧.asked result ≡ [] }
+        ensures steady { ⟦<MemShelf as Shelf>⟧.fails_only_if_absent result ≡ fails_none fail.items }
     {
         MemShelf {
             files,
@@ -39,6 +43,7 @@ impl MemShelf {
             is_open: false,
             place: 0,
             taken: 0,
+            asked: Asked::new(),
         }
     }
 }
@@ -81,25 +86,29 @@ impl Shelf for MemShelf {
 
     ghost contents = { λ s. Some (bytes_of s.files.items) };
 
+    ghost asked = { λ s. s.asked.names };
+
+    ghost fails_only_if_absent = { λ s. fails_none s.calls.fail.items };
+
     ghost is_open = { λ s. s.is_open };
 
     ghost left = { λ s. rest_at s.files.items s.place s.taken };
 
     fn open_name(&mut self, name: &str) -> Result<(), Failed> {
         self.is_open = false;
-        let fails = self.calls.next_fails();
-        match place_of(&self.files, name) {
-            Some(place) if !fails => {
-                self.is_open = true;
-                self.place = place;
-                self.taken = 0;
-                Ok(())
-            }
-            _ => {
-                self.faults = self.faults.saturating_add(1);
-                Err(Failed)
-            }
+        self.asked = self.asked.and(name);
+        if self.calls.next_fails() {
+            self.faults = self.faults.saturating_add(1);
+            return Err(Failed);
         }
+        let Some(place) = place_of(&self.files, name) else {
+            self.faults = self.faults.saturating_add(1);
+            return Err(Failed);
+        };
+        self.is_open = true;
+        self.place = place;
+        self.taken = 0;
+        Ok(())
     }
 
     fn read(&mut self, into: &mut [u8]) -> Result<usize, Failed> {

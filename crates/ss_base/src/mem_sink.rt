@@ -1,5 +1,6 @@
 // A sink in memory, with calls that fail as listed.
 ghost use Rattle.std.specs.Prelude.{◌≡◌, ◌+◌, ◌<◌, ◌≤◌, [], Some, IfOk, vec_len, vec_capacity};
+ghost use Rattle.ss_base.specs.Calls.{sure_bytes};
 
 use crate::calls::Calls;
 use crate::{Failed, OutOfMemory, Sink};
@@ -30,7 +31,9 @@ impl MemSink {
         chunk: usize,
     ) -> Result<MemSink, OutOfMemory>
         requires { 0 < chunk }
-        ensures { IfOk result (λ sink. ⟦<MemSink as Sink>⟧.gained sink ≡ Some []) }
+        ensures gained { IfOk result (λ sink. ⟦<MemSink as Sink>⟧.gained sink ≡ Some []) }
+        ensures sure { IfOk result
+            (λ sink. ⟦<MemSink as Sink>⟧.sure sink ≡ sure_bytes fail.items room) }
     {
         Ok(MemSink {
             bytes: Vec::with_capacity(alloc, room)?,
@@ -53,6 +56,8 @@ impl Sink for MemSink {
     ghost faults = { λ s. s.faults };
 
     ghost gained = { λ s. Some s.bytes.items };
+
+    ghost sure = { λ s. sure_bytes s.calls.fail.items s.room };
 
     fn write(&mut self, bytes: &[u8]) -> Result<usize, Failed> {
         let fails = self.calls.next_fails();

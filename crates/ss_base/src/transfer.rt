@@ -1,7 +1,7 @@
 // Reading a whole name, and writing a whole text.
-ghost use Rattle.std.specs.Prelude.{◌≡◌, ◌≤◌, IsErrOf, IfOk, vec_len};
-ghost use Rattle.ss_base.specs.Faults.{HasCause, Rose};
-ghost use Rattle.ss_base.specs.Shelves.{ReadsWhole, PassesLimit};
+ghost use Rattle.std.specs.Prelude.{◌≡◌, ◌+◌, ◌≤◌, [], ◌∷◌, ◌++◌, IsTrue, IsErrOf, IfOk, length, vec_len};
+ghost use Rattle.ss_base.specs.Faults.{HasCause, HasNoFault, Rose};
+ghost use Rattle.ss_base.specs.Shelves.{IsHeld, IsSteady, ReadsWhole, PassesLimit};
 ghost use Rattle.ss_base.specs.Sinks.{GainsAll};
 ghost use Rattle.ss_base.specs.declared.transfer.ReadStop.TheVariants as stop;
 
@@ -59,6 +59,11 @@ pub fn read_all<L: Shelf>(
     requires { limit ≤ 8388608 }
     ensures never_falls { L.faults shelf.old ≤ L.faults shelf.new }
     ensures contents { L.contents shelf.new ≡ L.contents shelf.old }
+    ensures asked { L.asked shelf.new ≡ L.asked shelf.old ++ name.now ∷ [] }
+    ensures steady { IsSteady (L.contents shelf.old) (L.fails_only_if_absent shelf.old) →
+        IsTrue (L.fails_only_if_absent shelf.new)
+        × (IsHeld (L.contents shelf.old) name.now →
+        (¬ IsErrOf result ReadStop.Failed) × (L.faults shelf.new ≡ L.faults shelf.old)) }
 
     ensures within { IfOk result (λ bytes. vec_len bytes ≤ limit) }
     ensures whole { IfOk result (λ bytes.
@@ -86,6 +91,9 @@ pub fn read_all<L: Shelf>(
 pub fn write_all<K: Sink>(sink: &mut K, bytes: &[u8]) -> Result<(), Failed>
     ensures cause { HasCause (K.faults sink.old) (K.faults sink.new) result }
     ensures gained { GainsAll (K.gained sink.old) (K.gained sink.new) result bytes.now }
+    ensures sure { length bytes.now ≤ K.sure sink.old →
+        HasNoFault (K.faults sink.old) (K.faults sink.new) result
+        × (K.sure sink.old ≤ K.sure sink.new + length bytes.now) }
 {
     let mut done = 0;
     while done < bytes.len() {

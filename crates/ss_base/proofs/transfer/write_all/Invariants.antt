@@ -1,4 +1,4 @@
-use Rattle.std.proofs.Common.{◌-◌, ◌≤◌, length, take}
+use Rattle.std.proofs.Common.{◌≡◌, ◌+◌, ◌-◌, ◌≤◌, length, take}
 use Rattle.std.specs.Io.KnownBytes.{Appends}
 use Rattle.ss_base.proofs.transfer.write_all.Given as goal
 
@@ -8,6 +8,10 @@ invariant-loop-done g l =
     record {
       within : l.done ≤ length l.bytes;
       never_falls : g.K.Sink.faults l.initial.sink ≤ g.K.Sink.faults l.sink;
+      sure :
+          length l.bytes ≤ g.K.Sink.sure l.initial.sink →
+          (g.K.Sink.faults l.sink ≡ g.K.Sink.faults l.initial.sink)
+          × (g.K.Sink.sure l.initial.sink ≤ g.K.Sink.sure l.sink + l.done);
       gained : Appends (g.K.Sink.gained l.initial.sink) (g.K.Sink.gained l.sink) (take l.done l.bytes);
     }
 

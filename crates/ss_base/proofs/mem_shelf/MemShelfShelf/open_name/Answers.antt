@@ -1,8 +1,15 @@
-use Rattle.std.proofs.Common.{sym}
-use Rattle.ss_base.proofs.FilesLemmas.{bytes_of-place}
+use Rattle.std.proofs.Common.{sym, ◌∙◌}
+use Rattle.ss_base.proofs.FilesLemmas.{bytes_of-place, bytes_of-absent}
 use Rattle.ss_base.proofs.mem_shelf.MemShelfShelf.open_name.Goals as goal
 
-pub returns-in-Some-clause-left : goal.returns-in-Some-clause-left
-returns-in-Some-clause-left c =
+pub returns-clause-left : goal.returns-clause-left
+returns-clause-left c =
     rw (← c.deref.ensures.value)
-    (bytes_of-place c.deref.result.now c.args.name.now c.in-Some.place (sym c.in-Some.ensures))
+    (bytes_of-place c.deref.result.now c.args.name.now c.in-Some.place (sym c.place_of.ensures ∙ c.in-Some.is))
+
+pub returns-in_default-clause-steady : goal.returns-in_default-clause-steady
+returns-in_default-clause-steady c =
+    let absent =
+    rw c.deref.ensures.value at
+    (bytes_of-absent c.deref.result.now c.args.name.now (sym c.place_of.ensures ∙ c.in_default.is)) in
+    λ steady. (rw c.next_fails.ensures.list steady.1, λ held. absurd (let none = rw absent at held in cc))
