@@ -72,17 +72,18 @@ module _ (calls : List Shape) (call : Shape) (s : Option Serializer) (object : �
     by_case true = held_among-push s object (since is_begin calls) call
     by_case false = refl
 
-  -- the readers of an object
-  pub reads-push :
-      list_any (reads object) (this_epoch (calls ++ call ∷ [])) ≡
-      (list_any (reads object) (this_epoch calls) || (isolating calls && reads object call))
-  reads-push = rw (this_epoch-within calls call within) (by_case (isolating calls)) where
-    by_case : (open_ : Bool) →
-        list_any (reads object) (if open_ then (since is_begin calls ++ call ∷ []) else []) ≡
-        (list_any (reads object) (if open_ then (since is_begin calls) else []) ||
-        (open_ && reads object call))
-    by_case true = rw (list_any-append, or-false (reads object call)) refl
-    by_case false = refl
+-- the readers of an object
+pub reads-push : (calls : List Shape) (call : Shape) (object : ℕ) → IsWithin call →
+    list_any (reads object) (this_epoch (calls ++ call ∷ [])) ≡
+    (list_any (reads object) (this_epoch calls) || (isolating calls && reads object call))
+reads-push calls call object within =
+    rw (this_epoch-within calls call within) (by_case (isolating calls)) where
+      by_case : (open_ : Bool) →
+          list_any (reads object) (if open_ then (since is_begin calls ++ call ∷ []) else []) ≡
+          (list_any (reads object) (if open_ then (since is_begin calls) else []) ||
+          (open_ && reads object call))
+      by_case true = rw (list_any-append, or-false (reads object call)) refl
+      by_case false = refl
 
 module _ (calls : List Shape) (call : Shape) (object : ℕ) (within : IsWithin call)
     (inside : object < object_count calls) where
