@@ -20,9 +20,9 @@ pub record Meaning (C O R : Type 0) : Type 0 where
   -- the total with one contribution more
   pub join : R → R → R
 
--- the number of the object that is read, where one is
-abbrev pub number_read : Option ObjectId → Option ℕ
-number_read reading = option_map (λ object. object.0) reading
+-- the number of an object, where one is given
+abbrev pub number_given : Option ObjectId → Option ℕ
+number_given object = option_map (λ o. o.0) object
 
 module _ {C O : Type 0} where
   -- the shape of a call, where operations name their sets by `own`
@@ -31,7 +31,7 @@ module _ {C O : Type 0} where
   shape_of own (MakeFixed value) = shape.make_fixed
   shape_of own Begin = shape.begin
   shape_of own (Delegate object op reading) =
-      shape.delegate object.0 (own op) (number_read reading)
+      shape.delegate object.0 (own op) (number_given reading)
   shape_of own (Write object op) = shape.write object.0
   shape_of own (Get object) = shape.get object.0
   shape_of own End = shape.end
