@@ -1,20 +1,19 @@
 -- What an accepted call needs of the marks.
-use Rattle.std.proofs.Common.{◌≡◌, ℕ, ◌^◌, ◌<◌, Bool, true, false, not, Option, Some, None, List, length, refl, sym, ◌∙◌, subst, arith}
-use Rattle.std.specs.Prelude.{nat_le, ◌==◌, is_some, is_none, if◌then◌else◌}
+use Rattle.std.proofs.Common.{◌≡◌, ℕ, ◌^◌, ◌<◌, Bool, true, false, not, Option, Some, None, List, length, refl, arith}
+use Rattle.std.specs.Prelude.{Result, Ok, Err, OnOk, nat_le}
 use Rattle.std.proofs.lemmas.Bool.Decides.{nat_tests}
-use Rattle.std.proofs.lemmas.Option.{slice_get_within, same_Some}
-use Rattle.ss_base.specs.declared.ids.SetId.{SetId}
+use Rattle.std.proofs.lemmas.Option.{slice_get_within}
 use Rattle.execution_definitions.specs.declared.refusal.Refusal.{Refusal}
 use Rattle.execution_definitions.specs.declared.refusal.Refusal.TheVariants.{NotIsolating, TooManyObjects, TooManyCalls}
-use Rattle.execution_definitions.specs.declared.serializer.Serializer.{Serializer}
-use Rattle.execution_definitions.specs.Shapes.{delegate}
-use Rattle.execution_definitions.specs.Refusals.{first_of, refuse_if, if_reading, self_read, too_many_objects, too_many_calls}
+use Rattle.execution_definitions.specs.Shapes.{delegate, write}
+use Rattle.execution_definitions.specs.Refusals.{first_of, refuse_if, if_reading, two_sets_if, self_read, too_many_objects, too_many_calls}
 use Rattle.execution_definitions.proofs.RefusalsLemmas.{first_of-none}
 use Rattle.partition_check.specs.declared.mark.Mark.{Mark}
-use Rattle.partition_check.specs.Marked.{Marked, mark_at, set_marked}
-use Rattle.partition_check.specs.Judged.{judged, judged_delegate, unknown_if, unknown_read, read_only_if, two_sets_in, shared_if, held_in, private_in, private_read}
+use Rattle.partition_check.specs.Marked.{Marked, mark_at, set_marked, held_in}
+use Rattle.partition_check.specs.Judged.{judged, judged_delegate, judged_write, unknown_if, unknown_read, read_only_if, shared_if, private_read}
 use Rattle.partition_check.specs.MarkedAfter.{HasMark}
-use Rattle.partition_check.specs.Delegable.{IsFree, IsReadFree, IsReadOther, IsDelegable}
+use Rattle.partition_check.specs.Delegable.{IsDelegable}
+use Rattle.partition_check.specs.Answers.{Answers}
 
 -- what an accepted delegation needs of the marks
 
@@ -39,31 +38,6 @@ pub is_open_then : (opened : Bool) → refuse_if (not opened) NotIsolating ≡ N
 is_open_then true none = refl
 is_open_then false none = absurd cc
 
--- what isn't refused doesn't hold
-refused_not : (test : Bool) (refusal : Refusal) → refuse_if test refusal ≡ None → test ≡ false
-refused_not true refusal none = absurd cc
-refused_not false refusal none = refl
-
--- an object that isn't refused as private may be read
-free_mark : (object : ℕ) (mark : Mark) → private_in object (Some mark) ≡ None → IsFree mark
-free_mark object mark none = λ writable. by_serializer mark.serializer mark.set writable none where
-  by_serializer : (s : Option Serializer) (given : Option SetId) → is_some s ≡ true →
-      (if is_none s then None else held_in object given) ≡ None → given ≡ None
-  by_serializer None given writable none = absurd cc
-  by_serializer (Some s) None writable none = refl
-  by_serializer (Some s) (Some set) writable none = absurd cc
-
-free_read : (marked : Marked) (reading : Option ℕ) →
-    if_reading reading (private_read marked) ≡ None → IsReadFree reading marked.objects
-free_read marked None none = tt
-free_read marked (Some read) none = λ mark some.
-    free_mark read mark (subst (λ m. private_in read m ≡ None) some none)
-
-other_read : (object : ℕ) (reading : Option ℕ) →
-    if_reading reading (self_read object) ≡ None → IsReadOther reading object
-other_read object None none = tt
-other_read object (Some read) none = refused_not (read == object) _ none
-
 -- there is room for a call where the limit isn't reached
 call_room : (calls : ℕ) → too_many_calls calls ≡ None → calls < 2 ^ 60
 call_room calls none = by_test (nat_le (2 ^ 60) calls) refl none where
@@ -86,7 +60,7 @@ delegable marked object own reading accepted = by_mark (mark_at marked object) r
       let opened = first_of-none (refuse_if (not marked.is_open) NotIsolating) _ read.1 in
       let writable = first_of-none (read_only_if object mark) _ opened.1 in
       let one_set =
-      first_of-none (two_sets_in object mark.set (set_marked (Some mark) object own)) _
+      first_of-none (two_sets_if object (held_in mark) (set_marked (Some mark) object own)) _
       writable.1 in
       let unshared = first_of-none (shared_if object mark) _ one_set.1 in
       let other = first_of-none (if_reading reading (self_read object)) _ unshared.1 in
@@ -94,12 +68,7 @@ delegable marked object own reading accepted = by_mark (mark_at marked object) r
       record {
         isolating = is_open_then marked.is_open opened.0;
         known = slice_get_within marked.objects object mark some;
-        unshared = λ same is. subst (λ m. m.shared ≡ false)
-            (same_Some mark same (sym some ∙ is))
-            (refused_not mark.shared _ unshared.0);
         read_known = has_mark marked reading read.0;
-        read_other = other_read object reading other.0;
-        read_free = free_read marked reading free.0;
         room = call_room marked.calls free.1;
       }
 
@@ -114,3 +83,18 @@ room objects calls none =
       by_tests true b many more none = absurd cc
       by_tests false true few more none = absurd cc
       by_tests false false few less none = (grind (arith, nat_tests), grind (arith, nat_tests))
+
+-- a write that isn't refused is of an object
+pub write_known : (marked : Marked) (object : ℕ) → judged marked (write object) ≡ None →
+    object < length marked.objects
+write_known marked object accepted = by_mark (mark_at marked object) refl accepted where
+  by_mark : (mark : Option Mark) → mark_at marked object ≡ mark →
+      judged_write marked object mark ≡ None → object < length marked.objects
+  by_mark None none accepted = absurd cc
+  by_mark (Some mark) some accepted = slice_get_within marked.objects object mark some
+
+-- so an answer that isn't a refusal tells that it is
+pub known_when_ok : {T : Type 0} (result : Result T Refusal) (cause : Option Refusal)
+    (known : Type 0) → Answers result cause → (cause ≡ None → known) → OnOk result known
+known_when_ok (Ok value) cause known answers accepted = accepted answers
+known_when_ok (Err refusal) cause known answers accepted = tt

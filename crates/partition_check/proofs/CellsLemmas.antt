@@ -1,7 +1,8 @@
 -- Cells, and the marks that they stand for.
-use Rattle.std.proofs.Common.{◌≡◌, ℕ, ◌+◌, ◌<◌, ◌≤◌, Bool, true, false, ◌&&◌, Option, Some, None, List, [], ◌∷◌, length, get_or, map, ◌^◌, ◌++◌, length-append, refl, arith, zero, suc}
+use Rattle.std.proofs.Common.{◌≡◌, ℕ, ◌+◌, ◌<◌, ◌≤◌, Bool, true, false, ◌&&◌, Option, Some, None, List, [], ◌∷◌, length, get_or, map, ◌^◌, ◌++◌, length-append, refl, ap, arith, zero, suc}
 use Rattle.std.specs.Prelude.{◌==◌, slice_get, slice_set, All, is_some}
 use Rattle.std.proofs.lemmas.Bool.Decides.{nat_tests}
+use Rattle.std.proofs.lemmas.List.{length-map}
 use Rattle.std.proofs.lemmas.Option.{slice_get-map, slice_get_read}
 use Rattle.std.proofs.lemmas.List.Elements.{All-head, All-tail, All-push}
 use Rattle.execution_definitions.specs.declared.serializer.By.{By}
@@ -44,6 +45,14 @@ map-end epochs is_open [] = refl
 map-end epochs is_open (cell ∷ cells) =
     rw (and-false (is_some cell.by), map-end epochs is_open cells) refl
 
+-- a number that has a mark has a cell
+pub within_cells : (epochs : ℕ) (is_open : Bool) (cells : List Cell) (marks : List Mark) (i : ℕ) →
+    map (mark_in epochs is_open) cells ≡ marks → i < length marks → i < length cells
+within_cells epochs is_open cells marks i same inside =
+    let as_many = length-map cells (mark_in epochs is_open) in
+    let n = ap length same in
+    omega arith
+
 -- the mark of a cell in the open epoch
 pub slice_get-cell : (epochs : ℕ) (is_open : Bool) (cells : List Cell) (i : ℕ) (cell : Cell) →
     is_open ≡ true → i < length cells → cell ≡ get_or cells i cell →
@@ -57,16 +66,15 @@ slice_get-cell epochs is_open cells i cell opened inside at =
 
 -- a cell written at a place changes the mark at that place
 pub map-changed_at : (epochs : ℕ) (is_open : Bool) (cells : List Cell) (i : ℕ) (old new : Cell)
-    (change : Mark → Mark) →
-    is_open ≡ true → i < length cells → old ≡ get_or cells i old →
-    mark_in epochs true new ≡ change (mark_in epochs true old) →
+    (change : Mark → Mark) → i < length cells → old ≡ get_or cells i old →
+    mark_in epochs is_open new ≡ change (mark_in epochs is_open old) →
     map (mark_in epochs is_open) (slice_set cells i new)
     ≡ changed_at i change (map (mark_in epochs is_open) cells)
-map-changed_at epochs is_open [] i old new change opened inside at is = absurd (omega arith)
-map-changed_at epochs is_open (cell ∷ cells) zero old new change opened inside at is =
-    rw (opened, is, at) refl
-map-changed_at epochs is_open (cell ∷ cells) (suc i) old new change opened inside at is =
-    rw (map-changed_at epochs is_open cells i old new change opened (omega arith) at is) refl
+map-changed_at epochs is_open [] i old new change inside at is = absurd (omega arith)
+map-changed_at epochs is_open (cell ∷ cells) zero old new change inside at is =
+    rw (is, at) refl
+map-changed_at epochs is_open (cell ∷ cells) (suc i) old new change inside at is =
+    rw (map-changed_at epochs is_open cells i old new change (omega arith) at is) refl
 
 -- a cell that was written in no epoch is clear in every one
 pub mark_in-fresh : (epochs : ℕ) (is_open : Bool) (cell : Cell) (serializer : Option Serializer) →

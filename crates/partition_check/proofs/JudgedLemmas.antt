@@ -1,51 +1,40 @@
 -- What marks say of a call is what the rule says of the list that they represent.
-use Rattle.std.proofs.Common.{◌≡◌, ℕ, Bool, true, false, not, Option, Some, None, List, [], ◌∷◌, refl, sym, ap, ◌∙◌, arith, rules, cond, subst}
-use Rattle.std.specs.Prelude.{slice_get, find, ◌==◌, if◌then◌else◌}
-use Rattle.std.proofs.lemmas.Bool.{eqb-true}
+use Rattle.std.proofs.Common.{◌≡◌, ℕ, Option, Some, None, List, ⊎_elim, refl, sym, ap, ◌∙◌, arith, rules}
+use Rattle.std.specs.Prelude.{if◌then◌else◌, is_some}
+use Rattle.std.specs.Option.{option_map}
 use Rattle.std.proofs.lemmas.Grind.{common_steps}
 use Rattle.std.proofs.lemmas.Option.{slice_get_past}
 use Rattle.ss_base.specs.Ids.{object_id, set_id}
 use Rattle.ss_base.specs.declared.ids.SetId.{SetId}
 use Rattle.execution_definitions.specs.declared.refusal.Refusal.{Refusal}
-use Rattle.execution_definitions.specs.declared.refusal.Refusal.TheVariants.{UnknownObject, TwoSets}
+use Rattle.execution_definitions.specs.declared.refusal.Refusal.TheVariants.{UnknownObject}
 use Rattle.execution_definitions.specs.declared.serializer.By.{By}
 use Rattle.execution_definitions.specs.Shapes.{Shape, delegate, write}
-use Rattle.execution_definitions.specs.Sets.{makers, set_of, set_under}
-use Rattle.execution_definitions.specs.Refusals.{breaks, unknown_object, first_of, refuse_if, if_reading, is_fixed, sets_of, two_sets_if, private_if, private_object}
+use Rattle.execution_definitions.specs.Sets.{makers, serializer_of, set_of, set_under}
+use Rattle.execution_definitions.specs.Epochs.{this_epoch}
+use Rattle.execution_definitions.specs.Held.{last_set, held_set}
+use Rattle.execution_definitions.specs.Refusals.{breaks, unknown_object, first_of, if_reading, private_object}
+use Rattle.execution_definitions.proofs.HeldLemmas.{IsNoneOr, held_or_last}
 use Rattle.partition_check.specs.declared.mark.Mark.{Mark}
-use Rattle.partition_check.specs.Marked.{Marked, mark_at, set_marked}
-use Rattle.partition_check.specs.Judged.{judged_make, judged_write, judged_delegate, two_sets_in, held_in, private_in, private_read, unknown_if, unknown_read}
-use Rattle.partition_check.specs.Represents.{Represents}
+use Rattle.partition_check.specs.Marked.{Marked, mark_at, set_marked, held_in}
+use Rattle.partition_check.specs.Judged.{judged_make, judged_write, judged_delegate, private_in, private_read, unknown_if, unknown_read}
+use Rattle.partition_check.specs.Represents.{Represents, IsMarkOf}
 use Rattle.partition_check.specs.Answers.{making}
-use Rattle.partition_check.proofs.SetOfLemmas.{EachIs, AreAll, AreAll-from_given, find-all}
 use Rattle.partition_check.proofs.KnownLemmas.{past_objects, within_objects}
 
--- one set that all delegations had, against that of the call
-first_other : (object second : ℕ) (first : SetId) (sets : List ℕ) → EachIs first.0 sets →
-    (test : Bool) → (first.0 == second) ≡ test →
-    refuse_if (not test) (TwoSets (object_id object) first (set_id second)) ≡
-    two_sets_if object (cond (not test) (Some first.0)
-    (find (λ earlier. not (earlier == second)) sets)) second
-first_other object second first sets each true same =
-    rw (find-all second sets (subst (λ number. EachIs number sets)
-    (eqb-true first.0 second same) each)) refl
-first_other object second first sets each false other = refl
-
--- the set in a mark refuses another as the list does
-same_two_sets : (object second : ℕ) (given : Option SetId) (sets : List ℕ) → AreAll given sets →
-    two_sets_in object given second
-    ≡ two_sets_if object (find (λ earlier. not (earlier == second)) sets) second
-same_two_sets object second None sets none = rw none refl
-same_two_sets object second (Some set) [] all = absurd all
-same_two_sets object second (Some set) (x ∷ xs) all =
-    rw (all.0) (first_other object second set xs all.1 (set.0 == second) refl)
-
--- the set in a mark refuses a reader as the list does
-same_private : (object : ℕ) (given : Option SetId) (sets : List ℕ) → AreAll given sets →
-    held_in object given ≡ private_if object (slice_get sets 0)
-same_private object None sets none = rw none refl
-same_private object (Some set) [] all = absurd all
-same_private object (Some set) (x ∷ xs) all = rw (all.0) refl
+-- the set that a mark holds its object to is the one by the list
+held_in-is : (calls : List Shape) (object : ℕ) (mark : Mark) → IsMarkOf calls object mark →
+    held_in mark ≡ held_set calls object
+held_in-is calls object mark is =
+    rw (is.is_held, is.set)
+    (by_case (held_set calls object) (last_set calls object)
+    (held_or_last (serializer_of calls object) object (this_epoch calls))) where
+      by_case : (held last : Option ℕ) → IsNoneOr held last →
+          (if is_some held then (option_map (λ (s : SetId). s.0) (option_map set_id last)) else None)
+          ≡ held
+      by_case None last is = refl
+      by_case (Some set) last is = ⊎_elim (λ none. absurd cc) (λ same. ap (λ set. option_map (λ (s : SetId). s.0) (option_map set_id set)) (sym same))
+          is
 
 -- rows may differ past a refusal that holds
 past_first : (first later same : Option Refusal) → (first ≡ None → later ≡ same) →
@@ -96,10 +85,7 @@ module _ (marked : Marked) (calls : List Shape) (r : Represents marked calls) wh
       sym (unknown_past object none) ∙ known in absurd cc
   private_as object (Some mark) some known =
       let is = r.each object mark some in
-      rw is.serializer
-      (ap (λ cause. if is_fixed calls object then None else cause)
-      (same_private object mark.set (sets_of calls object)
-      (AreAll-from_given mark.set (sets_of calls object) is.set)))
+      rw (is.serializer, held_in-is calls object mark is) refl
 
   -- where the object read is known; where it isn't, no later refusal is asked
   read_private : (reading : Option ℕ) → if_reading reading (unknown_object calls) ≡ None →
@@ -114,13 +100,12 @@ module _ (marked : Marked) (calls : List Shape) (r : Represents marked calls) wh
   judged_delegate-represents object own reading None none = rw (unknown_past object none) refl
   judged_delegate-represents object own reading (Some mark) some =
       let is = r.each object mark some in
-      let all = AreAll-from_given mark.set (sets_of calls object) is.set in
       rw (unknown_within object mark some, read_known reading)
       (past_first (if_reading reading (unknown_object calls)) _ _ (λ known.
       rw (
         read_private reading known,
         is.serializer,
-        same_two_sets object (set_of calls object own) mark.set (sets_of calls object) all,
+        held_in-is calls object mark is,
         is.shared,
         r.is_open,
         r.call_count,

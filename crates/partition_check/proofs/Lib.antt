@@ -1,10 +1,11 @@
-pub mod SetOfLemmas
 pub mod KnownLemmas
 pub mod JudgedLemmas
 pub mod AcceptedLemmas
 pub mod DelegatedLemmas
 pub mod CellsLemmas
 pub mod MarkLemmas
+pub mod ChangedLemmas
 pub mod RepresentsLemmas
 pub mod DelegateLemmas
+pub mod NoteLemmas
 pub mod TheoremLemmas

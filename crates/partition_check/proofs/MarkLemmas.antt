@@ -1,22 +1,22 @@
 -- What a mark says of its object, one call more at a time.
-use Rattle.std.proofs.Common.{eq-eqb, ◌≡◌, ℕ, ◌<◌, ◌≤◌, Bool, true, false, not, ◌&&◌, ◌||◌, cond, Option, Some, None, List, [], ◌∷◌, ◌++◌, refl, sym, ap, ◌∙◌, arith, append-nil}
-use Rattle.std.specs.Prelude.{find, ◌==◌, if◌then◌else◌, is_some, is_none}
-use Rattle.std.specs.List.{filter_map, list_any}
-use Rattle.std.proofs.lemmas.Bool.{eqb-true}
+use Rattle.std.proofs.Common.{eq-eqb, ◌≡◌, ℕ, ◌<◌, ◌≤◌, Bool, true, false, not, ◌&&◌, ◌||◌, Option, Some, None, List, [], ◌∷◌, ◌++◌, refl, sym, ap, ◌∙◌, arith}
+use Rattle.std.specs.Prelude.{◌==◌, if◌then◌else◌, is_some, is_none}
+use Rattle.std.specs.List.{list_any}
+use Rattle.std.specs.Option.{option_map}
 use Rattle.ss_base.specs.Ids.{set_id}
 use Rattle.execution_definitions.specs.declared.serializer.Serializer.{Serializer}
-use Rattle.execution_definitions.specs.Shapes.{Shape, delegate, makes_object, reads}
-use Rattle.execution_definitions.specs.Sets.{object_count, serializer_of, set_of}
-use Rattle.execution_definitions.specs.Epochs.{isolating, this_epoch}
-use Rattle.execution_definitions.specs.Refusals.{set_if_to, sets_of, is_fixed, is_read_shared, two_sets_if}
+use Rattle.execution_definitions.specs.Shapes.{Shape, delegate, is_begin, makes_object, reads}
+use Rattle.execution_definitions.specs.Sets.{object_count, serializer_of}
+use Rattle.execution_definitions.specs.Epochs.{since, isolating, this_epoch}
+use Rattle.execution_definitions.specs.Held.{is_fixed, frees, later_set, last_set_among, last_set, held_set, is_read_shared}
 use Rattle.execution_definitions.specs.Soundness.{IsSound}
 use Rattle.execution_definitions.proofs.EpochsLemmas.{IsWithin, or-false}
 use Rattle.execution_definitions.proofs.SetsLemmas.{serializer_of-kept}
-use Rattle.execution_definitions.proofs.RefusalsLemmas.{sets_of-past, reads-past, sets_under-push, sets_of-push, reads-push}
+use Rattle.execution_definitions.proofs.HeldLemmas.{last_set_under-push, held_set_under-push, last_set-push, held_set-push, reads-push}
+use Rattle.execution_definitions.proofs.RefusalsLemmas.{last_set-past, held_set-past, reads-past}
 use Rattle.partition_check.specs.declared.mark.Mark.{Mark}
-use Rattle.partition_check.specs.MarkedAfter.{fresh_mark, cleared_mark, with_set, with_reader}
+use Rattle.partition_check.specs.MarkedAfter.{fresh_mark, cleared_mark, with_set, with_reader, freed_mark}
 use Rattle.partition_check.specs.Represents.{IsMarkOf}
-use Rattle.partition_check.proofs.SetOfLemmas.{EachIs, AreAll, AreAll-from_given, given_from_AreAll}
 
 and-false : (b : Bool) → (b && false) ≡ false
 and-false true = refl
@@ -26,59 +26,95 @@ or-true : (b : Bool) → (b || true) ≡ true
 or-true true = refl
 or-true false = refl
 
-either_none : (b : Bool) → (let none : List ℕ = [] in if b then none else none) ≡ []
-either_none true = refl
-either_none false = refl
-
 -- the call delegates nothing to the object, and reads it nowhere
 pub record IsApart (call : Shape) (object : ℕ) : Type 0 where
-  pub no_set : (s : Option Serializer) → set_if_to s object call ≡ None
+  pub no_set :
+      (s : Option Serializer) (earlier : Option ℕ) → later_set s object earlier call ≡ earlier
   pub no_read : reads object call ≡ false
 
--- such a call adds no set of the object
-sets_of-apart : (calls : List Shape) (call : Shape) (object : ℕ) (s : Option Serializer) →
-    IsWithin call → IsApart call object →
-    filter_map (set_if_to s object) (this_epoch (calls ++ call ∷ []))
-    ≡ filter_map (set_if_to s object) (this_epoch calls)
-sets_of-apart calls call object s within apart =
-    let none = apart.no_set s in
-    rw (
-      sets_under-push calls call s object within,
-      none,
-      either_none (isolating calls),
-      append-nil,
-    ) refl
+-- what an epoch's calls come to is that of no calls where none is open
+where_open : (open_ : Bool) (xs : List Shape) (f : List Shape → Option ℕ) → f [] ≡ None →
+    (if open_ then f (if open_ then xs else []) else None) ≡ f (if open_ then xs else [])
+where_open true xs f none = refl
+where_open false xs f none = sym none
 
--- and no reader
-reads-apart : (calls : List Shape) (call : Shape) (object : ℕ) → IsWithin call →
-    IsApart call object →
-    list_any (reads object) (this_epoch (calls ++ call ∷ []))
-    ≡ list_any (reads object) (this_epoch calls)
-reads-apart calls call object within apart =
-    let none = apart.no_read in
-    rw (
-      reads-push calls call object within,
-      none,
-      and-false (isolating calls),
-      or-false (list_any (reads object) (this_epoch calls)),
-    ) refl
+module _ (calls : List Shape) (call : Shape) (object : ℕ) (within : IsWithin call)
+    (apart : IsApart call object) where
+  -- such a call leaves the set of the last delegation
+  last_set-apart : (s : Option Serializer) →
+      last_set_among s object (this_epoch (calls ++ call ∷ []))
+      ≡ last_set_among s object (this_epoch calls)
+  last_set-apart s =
+      let none = apart.no_set s in
+      last_set_under-push calls call s object within
+      ∙ rw (none (last_set_among s object (this_epoch calls)))
+      (where_open (isolating calls) (since is_begin calls) (last_set_among s object) refl)
 
--- a call that leaves the epoch and the object alone leaves the mark right
-pub IsMarkOf-apart : (calls : List Shape) (call : Shape) (object : ℕ) (mark : Mark) →
-    object < object_count calls →
-    IsWithin call → IsApart call object → IsMarkOf calls object mark →
-    IsMarkOf (calls ++ call ∷ []) object mark
-IsMarkOf-apart calls call object mark known within apart is = record {
-  serializer = rw (serializer_of-kept calls call object known) is.serializer;
-  set = rw (
-    serializer_of-kept calls call object known,
-    sets_of-apart calls call object (serializer_of calls object) within apart,
-  ) is.set;
-  shared = rw (
-    serializer_of-kept calls call object known,
-    reads-apart calls call object within apart,
-  ) is.shared;
-}
+  -- and the set that holds the object, where it is no write or get of it
+  held_set-apart : (s : Option Serializer) → frees object call ≡ false →
+      last_set_among s object (since (frees object) (this_epoch (calls ++ call ∷ [])))
+      ≡ last_set_among s object (since (frees object) (this_epoch calls))
+  held_set-apart s unfreed =
+      let none = apart.no_set s in
+      held_set_under-push calls call s object within
+      ∙ rw (
+        unfreed,
+        none (last_set_among s object (since (frees object) (this_epoch calls))),
+      )
+      (where_open (isolating calls) (since is_begin calls)
+      (λ list. last_set_among s object (since (frees object) list)) refl)
+
+  -- a write or a get of the object leaves nothing that holds it
+  held_set-freed : (s : Option Serializer) → frees object call ≡ true →
+      last_set_among s object (since (frees object) (this_epoch (calls ++ call ∷ []))) ≡ None
+  held_set-freed s freed =
+      held_set_under-push calls call s object within
+      ∙ rw freed (by_case (isolating calls)) where
+        by_case : (open_ : Bool) → (let none : Option ℕ = None in if open_ then none else none) ≡ None
+        by_case true = refl
+        by_case false = refl
+
+  -- it adds no reader
+  reads-apart : list_any (reads object) (this_epoch (calls ++ call ∷ []))
+      ≡ list_any (reads object) (this_epoch calls)
+  reads-apart =
+      let none = apart.no_read in
+      rw (
+        reads-push calls call object within,
+        none,
+        and-false (isolating calls),
+        or-false (list_any (reads object) (this_epoch calls)),
+      ) refl
+
+  module _ (mark : Mark) (known : object < object_count calls) (is : IsMarkOf calls object mark)
+    where
+      kept_serializer : serializer_of (calls ++ call ∷ []) object ≡ serializer_of calls object
+      kept_serializer = serializer_of-kept calls call object known
+
+      kept_last : mark.set ≡ option_map set_id (last_set (calls ++ call ∷ []) object)
+      kept_last = rw (kept_serializer, last_set-apart (serializer_of calls object)) is.set
+
+      kept_shared : mark.shared ≡ is_read_shared (calls ++ call ∷ []) object
+      kept_shared = rw (kept_serializer, reads-apart) is.shared
+
+      -- a call that leaves the epoch and the object alone leaves the mark right
+      pub IsMarkOf-apart : frees object call ≡ false → IsMarkOf (calls ++ call ∷ []) object mark
+      IsMarkOf-apart unfreed = record {
+        serializer = is.serializer ∙ sym kept_serializer;
+        set = kept_last;
+        is_held = rw (kept_serializer, held_set-apart (serializer_of calls object) unfreed) is.is_held;
+        shared = kept_shared;
+      }
+
+      -- a write or a get of the object frees it
+      pub IsMarkOf-freed : frees object call ≡ true →
+          IsMarkOf (calls ++ call ∷ []) object (freed_mark mark)
+      IsMarkOf-freed freed = record {
+        serializer = is.serializer ∙ sym kept_serializer;
+        set = kept_last;
+        is_held = rw (held_set-freed (serializer_of (calls ++ call ∷ []) object) freed) refl;
+        shared = kept_shared;
+      }
 
 -- where an epoch begins or ends, a cleared mark is right
 pub IsMarkOf-cleared : (calls : List Shape) (call : Shape) (object : ℕ) (mark : Mark) →
@@ -87,97 +123,76 @@ pub IsMarkOf-cleared : (calls : List Shape) (call : Shape) (object : ℕ) (mark 
     IsMarkOf (calls ++ call ∷ []) object (cleared_mark mark)
 IsMarkOf-cleared calls call object mark known empty is = record {
   serializer = rw (serializer_of-kept calls call object known) is.serializer;
-  set = given_from_AreAll None _ (rw empty refl);
+  set = rw empty refl;
+  is_held = rw empty refl;
   shared = rw (empty, and-false (not (is_fixed (calls ++ call ∷ []) object))) refl;
 }
 
 -- the mark of a new object is right: nothing was delegated to it, and nothing read it
 pub IsMarkOf-fresh : (calls : List Shape) (call : Shape) → IsSound calls →
     makes_object call ≡ true → IsWithin call →
-    ((object : ℕ) → IsApart call object) → (s : Option Serializer) →
-    s ≡ serializer_of (calls ++ call ∷ []) (object_count calls) →
+    ((object : ℕ) → IsApart call object) → ((object : ℕ) → frees object call ≡ false) →
+    (s : Option Serializer) → s ≡ serializer_of (calls ++ call ∷ []) (object_count calls) →
     IsMarkOf (calls ++ call ∷ []) (object_count calls) (fresh_mark s)
-IsMarkOf-fresh calls call sound made within apart s is =
+IsMarkOf-fresh calls call sound made within apart unfreed s is =
     let object = object_count calls in
+    let new = serializer_of (calls ++ call ∷ []) object in
     let past : object_count calls ≤ object_count calls = omega arith in
     record {
       serializer = is;
-      set = given_from_AreAll None _
-          (sets_of-apart calls call object (serializer_of (calls ++ call ∷ []) object) within
-          (apart object)
-          ∙ sets_of-past calls sound object past (serializer_of (calls ++ call ∷ []) object));
+      set = rw (
+        last_set-apart calls call object within (apart object) new,
+        last_set-past calls sound object past new,
+      ) refl;
+      is_held = rw (
+        held_set-apart calls call object within (apart object) new (unfreed object),
+        held_set-past calls sound object past new,
+      ) refl;
       shared = sym
           (ap (λ b. not (is_fixed (calls ++ call ∷ []) object) && b)
-          (reads-apart calls call object within (apart object) ∙ reads-past calls sound object past)
+          (reads-apart calls call object within (apart object)
+          ∙ reads-past calls sound object past)
           ∙ and-false (not (is_fixed (calls ++ call ∷ []) object)));
     }
 
 -- a delegation, first as it holds its object and then as it is read
 
--- a mark between the two: the set is that of the longer list, what is read that of the shorter
+-- a mark between the two: what holds it is that of the longer list, what reads it that of the
+-- shorter
 pub record IsHalfway (calls : List Shape) (call : Shape) (object : ℕ) (mark : Mark) : Type 0 where
   pub known : object < object_count calls
   pub serializer : mark.serializer ≡ serializer_of calls object
-  pub set : AreAll mark.set (sets_of (calls ++ call ∷ []) object)
+  pub set : mark.set ≡ option_map set_id (last_set (calls ++ call ∷ []) object)
+  pub is_held : mark.is_held ≡ is_some (held_set (calls ++ call ∷ []) object)
   pub shared : mark.shared ≡ is_read_shared calls object
-
--- where no other set is found, all are this one
-each_where_no_other : (set : ℕ) (sets : List ℕ) →
-    find (λ earlier. not (earlier == set)) sets ≡ None → EachIs set sets
-each_where_no_other set [] none = tt
-each_where_no_other set (x ∷ xs) none =
-    by_test (x == set) refl none (each_where_no_other set xs) where
-      by_test : (test : Bool) → (x == set) ≡ test →
-          cond (not test) (Some x) (find (λ earlier. not (earlier == set)) xs) ≡ None →
-          (find (λ earlier. not (earlier == set)) xs ≡ None → EachIs set xs) →
-          (x ≡ set) × EachIs set xs
-      by_test true same none rest = (eqb-true x set same, rest none)
-      by_test false other none rest = absurd cc
-
--- a row that refuses no second set found none
-no_other_found : (object second : ℕ) (found : Option ℕ) → two_sets_if object found second ≡ None →
-    found ≡ None
-no_other_found object second None none = refl
-no_other_found object second (Some first) none = absurd cc
-
-each_is-push : (set : ℕ) (sets : List ℕ) → EachIs set sets → EachIs set (sets ++ set ∷ [])
-each_is-push set [] each = (refl, tt)
-each_is-push set (x ∷ xs) each = (each.0, each_is-push set xs each.1)
-
--- one delegation more to the same set
-AreAll-push : (set : ℕ) (sets : List ℕ) → EachIs set sets →
-    AreAll (Some (set_id set)) (sets ++ set ∷ [])
-AreAll-push set [] each = (refl, tt)
-AreAll-push set (x ∷ xs) each = (each.0, each_is-push set xs each.1)
 
 module _ (calls : List Shape) (object own : ℕ) (reading : Option ℕ)
     (opened : isolating calls ≡ true) where
-  sets_of-delegate : (x : ℕ) → x < object_count calls →
-      sets_of (calls ++ delegate object own reading ∷ []) x ≡
-      sets_of calls x ++ filter_map (set_if_to (serializer_of calls x) x)
-      (delegate object own reading ∷ [])
-  sets_of-delegate x known =
-      rw (
-        sets_of-push calls (delegate object own reading) x
-            (record { no_begin = refl; no_end = refl }) known,
-        opened,
-      ) refl
+  within : IsWithin (delegate object own reading)
+  within = record { no_begin = refl; no_end = refl }
+
+  last_set-delegate : (x : ℕ) → x < object_count calls →
+      last_set (calls ++ delegate object own reading ∷ []) x
+      ≡ later_set (serializer_of calls x) x (last_set calls x) (delegate object own reading)
+  last_set-delegate x known =
+      rw (last_set-push calls (delegate object own reading) x within known, opened) refl
+
+  held_set-delegate : (x : ℕ) → x < object_count calls →
+      held_set (calls ++ delegate object own reading ∷ []) x
+      ≡ later_set (serializer_of calls x) x (held_set calls x) (delegate object own reading)
+  held_set-delegate x known =
+      rw (held_set-push calls (delegate object own reading) x within known, opened) refl
 
   -- the object that is delegated to
-  pub halfway_to : (mark : Mark) → object < object_count calls →
-      two_sets_if object (find (λ earlier. not (earlier == set_of calls object own))
-      (sets_of calls object)) (set_of calls object own) ≡ None →
-      IsMarkOf calls object mark →
+  pub halfway_to : (mark : Mark) → object < object_count calls → IsMarkOf calls object mark →
       IsHalfway calls (delegate object own reading) object (with_set object own mark)
-  halfway_to mark known one_set is =
+  halfway_to mark known is =
       let same : (object == object) ≡ true = eq-eqb object object refl in
-      let each = each_where_no_other (set_of calls object own) (sets_of calls object)
-      (no_other_found _ _ _ one_set) in
       record {
         known = known;
         serializer = is.serializer;
-        set = rw (sets_of-delegate object known, same, is.serializer)
-            (AreAll-push (set_of calls object own) (sets_of calls object) each);
+        set = rw (last_set-delegate object known, same, is.serializer) refl;
+        is_held = rw (held_set-delegate object known, same) refl;
         shared = is.shared;
       }
 
@@ -187,8 +202,8 @@ module _ (calls : List Shape) (object own : ℕ) (reading : Option ℕ)
   halfway_elsewhere x mark known other is = record {
     known = known;
     serializer = is.serializer;
-    set = rw (sets_of-delegate x known, other, append-nil)
-        (AreAll-from_given mark.set (sets_of calls x) is.set);
+    set = rw (last_set-delegate x known, other) is.set;
+    is_held = rw (held_set-delegate x known, other) is.is_held;
     shared = is.shared;
   }
 
@@ -200,8 +215,7 @@ module _ (calls : List Shape) (object own : ℕ) (reading : Option ℕ)
   is_read_shared-delegate x known =
       rw (
         serializer_of-kept calls (delegate object own reading) x known,
-        reads-push calls (delegate object own reading) x
-            (record { no_begin = refl; no_end = refl }),
+        reads-push calls (delegate object own reading) x within,
         opened,
       ) refl
 
@@ -212,7 +226,8 @@ module _ (calls : List Shape) (object own : ℕ) (reading : Option ℕ)
   whole_read x mark read half = record {
     serializer = rw (serializer_of-kept calls (delegate object own reading) x half.known)
         half.serializer;
-    set = given_from_AreAll mark.set _ half.set;
+    set = half.set;
+    is_held = half.is_held;
     shared = rw (
       is_read_shared-delegate x half.known,
       read,
@@ -232,7 +247,8 @@ module _ (calls : List Shape) (object own : ℕ) (reading : Option ℕ)
   whole_unread x mark unread half = record {
     serializer = rw (serializer_of-kept calls (delegate object own reading) x half.known)
         half.serializer;
-    set = given_from_AreAll mark.set _ half.set;
+    set = half.set;
+    is_held = half.is_held;
     shared = rw (
       is_read_shared-delegate x half.known,
       unread,

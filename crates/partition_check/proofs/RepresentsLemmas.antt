@@ -1,26 +1,26 @@
 -- Marks that represent a list represent it with one accepted call more.
 use Rattle.std.proofs.Common.{◌≡◌, ℕ, zero, suc, ◌+◌, Bool, true, false, Option, Some, None, List, [], ◌∷◌, ◌++◌, length, map, refl, sym, ap, ◌∙◌, subst, arith, length-append, add-zero}
 use Rattle.std.specs.Prelude.{slice_get, count_by}
-use Rattle.std.specs.Option.{option_map}
 use Rattle.std.proofs.lemmas.List.{length-map}
 use Rattle.std.proofs.lemmas.Option.{slice_get-map, same_Some}
 use Rattle.execution_definitions.specs.declared.serializer.By.{By}
 use Rattle.execution_definitions.specs.declared.serializer.By.TheVariants.{Object, Sequence, Own}
-use Rattle.execution_definitions.specs.declared.serializer.Serializer.{Serializer}
-use Rattle.execution_definitions.specs.Shapes.{Shape, make, make_fixed, begin, delegate, write, get, end, total, is_begin, is_end, reads, makes_object, makes_by_sequence}
+use Rattle.execution_definitions.specs.Shapes.{Shape, make, make_fixed, begin, end, is_begin, makes_object, makes_by_sequence}
 use Rattle.execution_definitions.specs.Sets.{object_count, serializer_of, serializer_by}
 use Rattle.execution_definitions.specs.Epochs.{this_epoch}
-use Rattle.execution_definitions.specs.Refusals.{breaks, set_if_to}
+use Rattle.execution_definitions.specs.Held.{frees}
+use Rattle.execution_definitions.specs.Refusals.{breaks}
 use Rattle.execution_definitions.proofs.SoundnessLemmas.{IsSound-push}
 use Rattle.execution_definitions.proofs.EpochsLemmas.{IsWithin, count_by-push, isolating-within, isolating-begin, this_epoch-begin, isolating-end, this_epoch-end}
 use Rattle.execution_definitions.proofs.SetsLemmas.{object_count-same, object_count-made, serializer_of-made}
 use Rattle.partition_check.specs.declared.mark.Mark.{Mark}
 use Rattle.partition_check.specs.Marked.{Marked}
-use Rattle.partition_check.specs.MarkedAfter.{cleared_mark, sequence_objects_making, with_call_counted, marked_made, marked_after}
-use Rattle.partition_check.specs.Represents.{Represents, IsMarkOf, IsUnmarked}
+use Rattle.partition_check.specs.MarkedAfter.{cleared_mark, sequence_objects_making, marked_made, marked_after}
+use Rattle.partition_check.specs.Represents.{Represents, IsMarkOf}
 use Rattle.partition_check.specs.Answers.{making}
 use Rattle.partition_check.proofs.MarkLemmas.{IsApart, IsMarkOf-apart, IsMarkOf-cleared, IsMarkOf-fresh}
 use Rattle.partition_check.proofs.KnownLemmas.{within_objects}
+use Rattle.partition_check.proofs.ChangedLemmas.{mapped_mark}
 
 -- a list of marks that are right for these calls
 abbrev pub AllRight : List Mark → List Shape → Type 0
@@ -45,13 +45,6 @@ pub call_count-push : (marked : Marked) (calls : List Shape) → Represents mark
     (call : Shape) →
     marked.calls + 1 ≡ length (calls ++ call ∷ [])
 call_count-push marked calls r call = rw (length-append, r.call_count) refl
-
--- the old mark behind a mapped one
-pub mapped_mark : {A : Type 0} (change : Mark → Mark) (old : Option Mark) (mark : Mark) →
-    option_map change old ≡ Some mark →
-    ((before : Mark) → old ≡ Some before → change before ≡ mark → A) → A
-mapped_mark change None mark some use_ = absurd cc
-mapped_mark change (Some before) mark some use_ = use_ before refl (same_Some _ _ some)
 
 -- where an epoch begins or ends, all marks are cleared
 all_cleared : (marked : Marked) (calls : List Shape) (call : Shape) → Represents marked calls →
@@ -96,68 +89,30 @@ end-represents marked calls r ok = record {
   each = all_cleared marked calls end r (this_epoch-end calls);
 }
 
--- a write, a get or a total
+-- a delegation, a write, a get or a total
 
--- the call makes nothing, delegates nothing, and leaves the epoch
-record IsPlain (call : Shape) : Type 0 where
-  within : IsWithin call
-  apart : (object : ℕ) → IsApart call object
-  no_object : makes_object call ≡ false
-  no_sequence : makes_by_sequence call ≡ false
+-- the call makes nothing, and leaves the epoch
+pub record IsPlain (call : Shape) : Type 0 where
+  pub within : IsWithin call
+  pub no_object : makes_object call ≡ false
+  pub no_sequence : makes_by_sequence call ≡ false
 
-within_if : (call : Shape) → is_begin call ≡ false → is_end call ≡ false → IsWithin call
-within_if call no_begin no_end = record { no_begin = no_begin; no_end = no_end }
-
-apart_if : (call : Shape) →
-    ((s : Option Serializer) (object : ℕ) → set_if_to s object call ≡ None) →
-    ((object : ℕ) → reads object call ≡ false) → (object : ℕ) → IsApart call object
-apart_if call no_set no_read object = record {
-  no_set = λ s. no_set s object;
-  no_read = no_read object;
+-- an accepted one, where each mark is right after it
+pub plain-represents : (marked : Marked) (calls : List Shape) (call : Shape)
+    (objects : List Mark) → IsPlain call → Represents marked calls → breaks calls call ≡ None →
+    length objects ≡ length marked.objects → AllRight objects (calls ++ call ∷ []) →
+    Represents (record marked { calls = marked.calls + 1; objects = objects })
+    (calls ++ call ∷ [])
+plain-represents marked calls call objects plain r ok as_many right = record {
+  sound = IsSound-push calls call r.sound ok;
+  call_count = call_count-push marked calls r call;
+  epochs = count_by-none is_begin calls call marked.epochs plain.within.no_begin r.epochs;
+  is_open = r.is_open ∙ sym (isolating-within calls call plain.within);
+  sequence_objects = count_by-none makes_by_sequence calls call marked.sequence_objects
+      plain.no_sequence r.sequence_objects;
+  objects = as_many ∙ r.objects ∙ sym (object_count-same calls call plain.no_object);
+  each = right;
 }
-
-plain_if : (call : Shape) → IsWithin call → ((object : ℕ) → IsApart call object) →
-    makes_object call ≡ false → makes_by_sequence call ≡ false → IsPlain call
-plain_if call within apart no_object no_sequence = record {
-  within = within;
-  apart = apart;
-  no_object = no_object;
-  no_sequence = no_sequence;
-}
-
--- a write, a get and a total are such calls
-unmarked_is_plain : (call : Shape) → IsUnmarked call → IsPlain call
-unmarked_is_plain (write o) is = plain_if (write o) (within_if (write o) refl refl)
-    (apart_if (write o) (λ s object. refl) (λ object. refl)) refl refl
-unmarked_is_plain (get o) is = plain_if (get o) (within_if (get o) refl refl)
-    (apart_if (get o) (λ s object. refl) (λ object. refl)) refl refl
-unmarked_is_plain total is = plain_if total (within_if total refl refl)
-    (apart_if total (λ s object. refl) (λ object. refl)) refl refl
-unmarked_is_plain (make by) is = absurd is
-unmarked_is_plain make_fixed is = absurd is
-unmarked_is_plain begin is = absurd is
-unmarked_is_plain (delegate o own r) is = absurd is
-unmarked_is_plain end is = absurd is
-
--- an accepted one of these
-pub unmarked-represents : (marked : Marked) (calls : List Shape) (call : Shape) →
-    IsUnmarked call → Represents marked calls →
-    breaks calls call ≡ None → Represents (with_call_counted marked) (calls ++ call ∷ [])
-unmarked-represents marked calls call unmarked r ok =
-    let plain = unmarked_is_plain call unmarked in
-    record {
-      sound = IsSound-push calls call r.sound ok;
-      call_count = call_count-push marked calls r call;
-      epochs = count_by-none is_begin calls call marked.epochs plain.within.no_begin r.epochs;
-      is_open = r.is_open ∙ sym (isolating-within calls call plain.within);
-      sequence_objects = count_by-none makes_by_sequence calls call marked.sequence_objects
-          plain.no_sequence r.sequence_objects;
-      objects = r.objects ∙ sym (object_count-same calls call plain.no_object);
-      each = λ object mark some.
-          IsMarkOf-apart calls call object mark
-          (within_objects marked calls r object mark some) plain.within (plain.apart object)
-          (r.each object mark some);
-    }
 
 -- a call that makes an object
 
@@ -171,15 +126,21 @@ pushed_mark (first ∷ marks) new zero mark some old fresh_ = old some
 pushed_mark (first ∷ marks) new (suc object) mark some old fresh_ =
     pushed_mark marks new object mark some old (λ same is. fresh_ (omega arith) is)
 
+-- the call neither names an object nor frees one, and leaves the epoch
+pub record IsApartAll (call : Shape) : Type 0 where
+  pub within : IsWithin call
+  pub apart : (object : ℕ) → IsApart call object
+  pub unfreed : (object : ℕ) → frees object call ≡ false
+
 -- so all marks are right where the new one is
 all_pushed : (marked : Marked) (calls : List Shape) (call : Shape) (new : Mark) →
-    Represents marked calls → IsWithin call →
-    ((object : ℕ) → IsApart call object) → IsMarkOf (calls ++ call ∷ []) (object_count calls) new →
+    Represents marked calls → IsApartAll call → IsMarkOf (calls ++ call ∷ []) (object_count calls) new →
     AllRight (marked.objects ++ new ∷ []) (calls ++ call ∷ [])
-all_pushed marked calls call new r within apart right object mark some =
+all_pushed marked calls call new r all right object mark some =
     pushed_mark marked.objects new object mark some
-    (λ old. IsMarkOf-apart calls call object mark
-    (within_objects marked calls r object mark old) within (apart object) (r.each object mark old))
+    (λ old. IsMarkOf-apart calls call object all.within (all.apart object) mark
+    (within_objects marked calls r object mark old) (r.each object mark old)
+    (all.unfreed object))
     (λ at is. subst (λ m. IsMarkOf (calls ++ call ∷ []) object m) is
     (subst (λ n. IsMarkOf (calls ++ call ∷ []) n new) (sym (at ∙ r.objects)) right))
 
@@ -199,8 +160,11 @@ pub make-represents : (by : By) (marked : Marked) (calls : List Shape) → Repre
     breaks calls (make by) ≡ None →
     Represents (marked_after marked (make by)) (calls ++ make by ∷ [])
 make-represents by marked calls r ok =
-    let within = within_if (make by) refl refl in
-    let apart = apart_if (make by) (λ s object. refl) (λ object. refl) in
+    let all : IsApartAll (make by) = record {
+      within = record { no_begin = refl; no_end = refl };
+      apart = λ object. record { no_set = λ s earlier. refl; no_read = refl };
+      unfreed = λ object. refl;
+    } in
     let made : Some (serializer_by by marked.sequence_objects)
     ≡ serializer_of (calls ++ make by ∷ []) (object_count calls) =
     ap (λ n. Some (serializer_by by n)) r.sequence_objects
@@ -209,11 +173,11 @@ make-represents by marked calls r ok =
       sound = IsSound-push calls (make by) r.sound ok;
       call_count = call_count-push marked calls r (make by);
       epochs = count_by-none is_begin calls (make by) marked.epochs refl r.epochs;
-      is_open = r.is_open ∙ sym (isolating-within calls (make by) within);
+      is_open = r.is_open ∙ sym (isolating-within calls (make by) all.within);
       sequence_objects = sequence_after by calls marked.sequence_objects r.sequence_objects;
       objects = rw (length-append, r.objects, object_count-made calls (make by) refl) refl;
-      each = all_pushed marked calls (make by) _ r within apart
-          (IsMarkOf-fresh calls (make by) r.sound refl within apart _ made);
+      each = all_pushed marked calls (make by) _ r all
+          (IsMarkOf-fresh calls (make by) r.sound refl all.within all.apart all.unfreed _ made);
     }
 
 -- an accepted make of a read-only object
@@ -221,20 +185,23 @@ pub make_fixed-represents : (marked : Marked) (calls : List Shape) → Represent
     breaks calls make_fixed ≡ None →
     Represents (marked_after marked make_fixed) (calls ++ make_fixed ∷ [])
 make_fixed-represents marked calls r ok =
-    let within = within_if make_fixed refl refl in
-    let apart = apart_if make_fixed (λ s object. refl) (λ object. refl) in
+    let all : IsApartAll make_fixed = record {
+      within = record { no_begin = refl; no_end = refl };
+      apart = λ object. record { no_set = λ s earlier. refl; no_read = refl };
+      unfreed = λ object. refl;
+    } in
     let made : None ≡ serializer_of (calls ++ make_fixed ∷ []) (object_count calls) =
     sym (serializer_of-made calls make_fixed refl) in
     record {
       sound = IsSound-push calls make_fixed r.sound ok;
       call_count = call_count-push marked calls r make_fixed;
       epochs = count_by-none is_begin calls make_fixed marked.epochs refl r.epochs;
-      is_open = r.is_open ∙ sym (isolating-within calls make_fixed within);
+      is_open = r.is_open ∙ sym (isolating-within calls make_fixed all.within);
       sequence_objects = count_by-none makes_by_sequence calls make_fixed marked.sequence_objects
           refl r.sequence_objects;
       objects = rw (length-append, r.objects, object_count-made calls make_fixed refl) refl;
-      each = all_pushed marked calls make_fixed _ r within apart
-          (IsMarkOf-fresh calls make_fixed r.sound refl within apart _ made);
+      each = all_pushed marked calls make_fixed _ r all
+          (IsMarkOf-fresh calls make_fixed r.sound refl all.within all.apart all.unfreed _ made);
     }
 
 -- the same of the calls that make objects, by what is asked for

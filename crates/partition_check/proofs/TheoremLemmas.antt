@@ -8,8 +8,9 @@ use Rattle.partition_check.specs.MarkedAfter.{marked_after}
 use Rattle.partition_check.specs.Represents.{Represents}
 use Rattle.partition_check.specs.Theorem.{MarksFollowTheRule}
 use Rattle.partition_check.proofs.JudgedLemmas.{known_as, judged_make-represents, judged_delegate-represents, judged_write-represents}
-use Rattle.partition_check.proofs.RepresentsLemmas.{make-represents, make_fixed-represents, begin-represents, end-represents, unmarked-represents}
+use Rattle.partition_check.proofs.RepresentsLemmas.{make-represents, make_fixed-represents, begin-represents, end-represents}
 use Rattle.partition_check.proofs.DelegateLemmas.{delegate-represents}
+use Rattle.partition_check.proofs.NoteLemmas.{noted-represents}
 use Rattle.std.specs.Prelude.{Some}
 
 -- every call is refused as by the rule
@@ -36,10 +37,12 @@ marked_after-represents marked calls r begin ok = begin-represents marked calls 
 marked_after-represents marked calls r (delegate o own reading) ok =
     delegate-represents marked calls o own reading r ok
 marked_after-represents marked calls r (write o) ok =
-    unmarked-represents marked calls (write o) tt r ok
-marked_after-represents marked calls r (get o) ok = unmarked-represents marked calls (get o) tt r ok
+    noted-represents marked calls (write o) r (Some o) refl ok
+marked_after-represents marked calls r (get o) ok =
+    noted-represents marked calls (get o) r (Some o) refl ok
 marked_after-represents marked calls r end ok = end-represents marked calls r ok
-marked_after-represents marked calls r total ok = unmarked-represents marked calls total tt r ok
+marked_after-represents marked calls r total ok =
+    noted-represents marked calls total r None tt ok
 
 -- the two together
 pub marks_follow : MarksFollowTheRule

@@ -1,7 +1,5 @@
 -- Is an answer the one that a row of refusals gives?
-use Rattle.std.specs.Prelude.{◌≡◌, ℕ, Option, Some, None, List, Result, Ok, Err}
-use Rattle.std.specs.Option.{option_map}
-use Rattle.ss_base.specs.declared.ids.ObjectId.{ObjectId}
+use Rattle.std.specs.Prelude.{◌≡◌, Option, Some, None, List, Result, Ok, Err}
 use Rattle.execution_definitions.specs.declared.serializer.By.{By}
 use Rattle.execution_definitions.specs.declared.refusal.Refusal.{Refusal}
 use Rattle.execution_definitions.specs.Shapes.{Shape, make, make_fixed}
@@ -36,11 +34,3 @@ AnswersMakeRule result marked call =
 abbrev pub making : Option By → Shape
 making None = make_fixed
 making (Some by) = make by
-
--- the number of an object
-abbrev pub number_of : ObjectId → ℕ
-number_of object = object.0
-
--- the number of the object that is read, where one is
-abbrev pub number_read : Option ObjectId → Option ℕ
-number_read reading = option_map number_of reading

@@ -1,6 +1,6 @@
 -- What does the cell of an object say in an epoch?
 --
--- A cell keeps the epoch in which it was last written. So a new epoch clears every cell at once, by
+-- A cell keeps the epoch in which something was last delegated to its object, or read it. So a new epoch clears every cell at once, by
 -- its number alone.
 use Rattle.std.specs.Prelude.{ℕ, ◌≤◌, Bool, not, ◌&&◌, ◌==◌, Some, None, if◌then◌else◌, is_some}
 use Rattle.partition_check.specs.declared.cell.Cell.{Cell}
@@ -12,10 +12,11 @@ abbrev pub mark_in : ℕ → Bool → Cell → Mark
 mark_in epochs is_open cell =
     let is_stamped = is_open && (cell.epoch == epochs) in record {
       serializer = serializer_making cell.by cell.set.0;
-      set = if (is_stamped && not cell.was_read) then (Some cell.set) else None;
+      set = if (is_stamped && cell.was_delegated) then (Some cell.set) else None;
+      is_held = is_stamped && (cell.was_delegated && not cell.was_freed);
       shared = is_some cell.by && (is_stamped && cell.was_read);
     }
 
--- the cell wasn't written in an epoch to come
+-- the cell isn't stamped with an epoch to come
 abbrev pub IsStamped : ℕ → Cell → Type 0
 IsStamped epochs cell = cell.epoch ≤ epochs

@@ -2,15 +2,14 @@
 --
 -- The rows are those of `breaks`: the refusals of a call are tried in this order, and the first
 -- that holds is the answer.
-use Rattle.std.specs.Prelude.{ℕ, not, ◌==◌, if◌then◌else◌, is_none, Option, Some, None, length}
-use Rattle.ss_base.specs.Ids.{object_id, set_id}
-use Rattle.ss_base.specs.declared.ids.SetId.{SetId}
+use Rattle.std.specs.Prelude.{ℕ, not, if◌then◌else◌, is_none, Option, Some, None, length}
+use Rattle.ss_base.specs.Ids.{object_id}
 use Rattle.execution_definitions.specs.declared.refusal.Refusal.{Refusal}
-use Rattle.execution_definitions.specs.declared.refusal.Refusal.TheVariants.{UnknownObject, NotIsolating, Isolating, ReadOnly, TwoSets, Shared, Private}
+use Rattle.execution_definitions.specs.declared.refusal.Refusal.TheVariants.{UnknownObject, NotIsolating, Isolating, ReadOnly, Shared}
 use Rattle.execution_definitions.specs.Shapes.{Shape, make, make_fixed, begin, delegate, write, get, end, total}
-use Rattle.execution_definitions.specs.Refusals.{first_of, refuse_if, if_reading, self_read, too_many_objects, too_many_calls}
+use Rattle.execution_definitions.specs.Refusals.{first_of, refuse_if, if_reading, two_sets_if, self_read, private_if, too_many_objects, too_many_calls}
 use Rattle.partition_check.specs.declared.mark.Mark.{Mark}
-use Rattle.partition_check.specs.Marked.{Marked, mark_at, set_marked}
+use Rattle.partition_check.specs.Marked.{Marked, mark_at, set_marked, held_in}
 
 -- the number has no mark
 abbrev pub unknown_if : ℕ → Option Mark → Option Refusal
@@ -29,23 +28,13 @@ read_only_if object mark = refuse_if (is_none mark.serializer) (ReadOnly (object
 abbrev pub shared_if : ℕ → Mark → Option Refusal
 shared_if object mark = refuse_if mark.shared (Shared (object_id object))
 
--- the object is held to another set than that of the call
-abbrev pub two_sets_in : ℕ → Option SetId → ℕ → Option Refusal
-two_sets_in object None second = None
-two_sets_in object (Some first) second =
-    refuse_if (not (first.0 == second)) (TwoSets (object_id object) first (set_id second))
-
--- an object is held to a set
-abbrev pub held_in : ℕ → Option SetId → Option Refusal
-held_in object None = None
-held_in object (Some set) = Some (Private (object_id object) set)
-
--- a writable object is held to a set
+-- the object is writable and held to a set
 abbrev pub private_in : ℕ → Option Mark → Option Refusal
 private_in object None = None
-private_in object (Some mark) = if is_none mark.serializer then None else held_in object mark.set
+private_in object (Some mark) =
+    if is_none mark.serializer then None else private_if object (held_in mark)
 
--- the object to be read is writable and held to a set
+-- the object to be read is so
 abbrev pub private_read : Marked → ℕ → Option Refusal
 private_read marked object = private_in object (mark_at marked object)
 
@@ -61,7 +50,7 @@ judged_delegate marked object own reading (Some mark) =
     first_of (if_reading reading (unknown_read marked))
     (first_of (refuse_if (not marked.is_open) NotIsolating)
     (first_of (read_only_if object mark)
-    (first_of (two_sets_in object mark.set (set_marked (Some mark) object own))
+    (first_of (two_sets_if object (held_in mark) (set_marked (Some mark) object own))
     (first_of (shared_if object mark)
     (first_of (if_reading reading (self_read object))
     (first_of (if_reading reading (private_read marked)) (too_many_calls marked.calls)))))))

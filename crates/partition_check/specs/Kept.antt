@@ -6,12 +6,12 @@ use Rattle.partition_check.specs.Cells.{IsStamped}
 -- the parts of marks fit each other and their types
 pub record IsKept (cells : List Cell) (calls epochs : ℕ) (is_open : Bool)
     (sequence_objects : ℕ) : Type 0 where
-  -- no cell was written in an epoch to come
+  -- no cell is stamped with an epoch to come
   pub stamped : All (IsStamped epochs) cells
   -- an epoch takes a call, and calls are bounded, so the counts fit
   pub begun : epochs ≤ calls
   pub call_limit : calls ≤ 2 ^ 60
-  -- a new cell, which was written in no epoch, is clear in the one that is open
+  -- a new cell, which has the stamp of no epoch, is clear in the one that is open
   pub first : is_open ≡ true → 1 ≤ epochs
   pub object_limit : length cells ≤ 1048576
   pub sequences : sequence_objects ≤ length cells

@@ -1,7 +1,8 @@
 -- What do contracts see of marks?
 --
 -- As much of the calls so far as the partition rule asks for: a few counts, and one mark an object.
-use Rattle.std.specs.Prelude.{ℕ, Bool, Option, Some, None, List, slice_get, option_and_then}
+use Rattle.std.specs.Prelude.{ℕ, Bool, Option, Some, None, List, slice_get, option_and_then, if◌then◌else◌}
+use Rattle.std.specs.Option.{option_map}
 use Rattle.ss_base.specs.declared.ids.SetId.{SetId}
 use Rattle.execution_definitions.specs.declared.serializer.Serializer.{Serializer}
 use Rattle.execution_definitions.specs.Sets.{set_under}
@@ -33,6 +34,10 @@ serializer_at (Some mark) = mark.serializer
 abbrev pub set_marked : Option Mark → ℕ → ℕ → ℕ
 set_marked mark object own = set_under (serializer_at mark) object own
 
--- the set to which an object was delegated in the open epoch, if it was
+-- the set that an object with this mark is held to, by its number
+abbrev pub held_in : Mark → Option ℕ
+held_in mark = if mark.is_held then (option_map (λ set. set.0) mark.set) else None
+
+-- the set of an object's last delegation in the open epoch, if there was one
 abbrev pub set_delegated : Marked → ℕ → Option SetId
 set_delegated marked object = option_and_then (λ mark. mark.set) (mark_at marked object)

@@ -4,14 +4,15 @@ use Rattle.ss_base.specs.Ids.{set_id}
 use Rattle.execution_definitions.specs.declared.serializer.By.{By}
 use Rattle.execution_definitions.specs.declared.serializer.By.TheVariants.{Sequence}
 use Rattle.execution_definitions.specs.declared.serializer.Serializer.{Serializer}
-use Rattle.execution_definitions.specs.Shapes.{Shape, make, make_fixed, begin, delegate, end}
+use Rattle.execution_definitions.specs.Shapes.{Shape, make, make_fixed, begin, delegate, write, get, end, total}
 use Rattle.execution_definitions.specs.Sets.{serializer_by, set_under}
 use Rattle.partition_check.specs.declared.mark.Mark.{Mark}
 use Rattle.partition_check.specs.Marked.{Marked}
 
 -- the mark of a new object
 abbrev pub fresh_mark : Option Serializer → Mark
-fresh_mark serializer = record { serializer = serializer; set = None; shared = false }
+fresh_mark serializer =
+    record { serializer = serializer; set = None; is_held = false; shared = false }
 
 -- a mark as an epoch begins or ends
 abbrev pub cleared_mark : Mark → Mark
@@ -20,7 +21,11 @@ cleared_mark mark = fresh_mark mark.serializer
 -- a mark after a delegation to the object: it is held to the set of the operation
 abbrev pub with_set : ℕ → ℕ → Mark → Mark
 with_set object own mark =
-    record mark { set = Some (set_id (set_under mark.serializer object own)) }
+    record mark { set = Some (set_id (set_under mark.serializer object own)); is_held = true }
+
+-- a mark after a write or a get of the object: it is held no more
+abbrev pub freed_mark : Mark → Mark
+freed_mark mark = record mark { is_held = false }
 
 -- a mark after a delegation that reads the object: if writable, it is read-shared
 abbrev pub with_reader : Mark → Mark
@@ -32,15 +37,19 @@ changed_at object change [] = []
 changed_at zero change (mark ∷ marks) = change mark ∷ marks
 changed_at (suc object) change (mark ∷ marks) = mark ∷ changed_at object change marks
 
+-- the marks with that of an object changed, where there is one
+abbrev pub changed_where : Option ℕ → (Mark → Mark) → List Mark → List Mark
+changed_where None change marks = marks
+changed_where (Some object) change marks = changed_at object change marks
+
 -- the marks after an operation that may read an object
 abbrev pub with_reader_at : Option ℕ → List Mark → List Mark
-with_reader_at None marks = marks
-with_reader_at (Some read) marks = changed_at read with_reader marks
+with_reader_at reading marks = changed_where reading with_reader marks
 
--- the object to be read, where there is one, has a mark
+-- an object, where there is one, has a mark
 abbrev pub HasMark : Option ℕ → List Mark → Type 0
 HasMark None marks = Unit {0}
-HasMark (Some read) marks = read < length marks
+HasMark (Some object) marks = object < length marks
 
 -- the serializer of a new object: none of a read-only one, for which none is asked
 abbrev pub serializer_making : Option By → ℕ → Option Serializer
@@ -60,9 +69,12 @@ marked_made marked by = record marked {
   objects = marked.objects ++ fresh_mark (serializer_making by marked.sequence_objects) ∷ [];
 }
 
--- after a call that no mark shows
-abbrev pub with_call_counted : Marked → Marked
-with_call_counted marked = record marked { calls = marked.calls + 1 }
+-- after a write or a get of an object, or after a total, where there is none
+abbrev pub marked_noted : Marked → Option ℕ → Marked
+marked_noted marked object = record marked {
+  calls = marked.calls + 1;
+  objects = changed_where object freed_mark marked.objects;
+}
 
 -- the marks after an accepted call
 abbrev pub marked_after : Marked → Shape → Marked
@@ -83,4 +95,6 @@ marked_after marked end = record marked {
   is_open = false;
   objects = map cleared_mark marked.objects;
 }
-marked_after marked _ = with_call_counted marked
+marked_after marked (write object) = marked_noted marked (Some object)
+marked_after marked (get object) = marked_noted marked (Some object)
+marked_after marked total = marked_noted marked None

@@ -1,29 +1,33 @@
-// The cell of one object: its mark, with the epoch in which it was written.
+// The cell of one object: its mark, with the epoch that it tells of.
 
 ghost use Rattle.std.specs.Prelude.{◌≡◌, ◌==◌, ◌&&◌, ℕ, ◌<◌, Bool, true, false};
+ghost use Rattle.std.specs.Option.{option_map};
 ghost use Rattle.execution_definitions.specs.Sets.{set_under};
 ghost use Rattle.partition_check.specs.Cells.{mark_in, IsStamped};
-ghost use Rattle.partition_check.specs.Delegable.{IsFree};
-ghost use Rattle.partition_check.specs.MarkedAfter.{serializer_making, fresh_mark, with_set, with_reader};
+ghost use Rattle.partition_check.specs.Marked.{held_in};
+ghost use Rattle.partition_check.specs.MarkedAfter.{serializer_making, fresh_mark, with_set, with_reader, freed_mark};
 
 use crate::mark::Mark;
 use execution_definitions::{By, Serializer};
 use serializer::serializer_of;
 use ss_base::{ObjectId, SetId};
 
-/// What is kept of one object, in 24 bytes: no object is both delegated to and read in one epoch,
-/// so one stamp tells of both.
+/// What is kept of one object, in 24 bytes.
 ///
-/// The stamp counts only in its own epoch, so that a new epoch clears every cell without a pass
-/// over them. Epochs are numbered from 1.
+/// What was done to the object counts only in the epoch of the stamp, so that a new epoch clears
+/// every cell without a pass over them. Epochs are numbered from 1.
 #[derive(Clone, Copy)]
 pub struct Cell {
     /// What the object's maker asked for. None of a read-only object.
     pub by: Option<By>,
-    /// In the epoch of the stamp operations read the object; else they were delegated to it.
+    /// Operations were delegated to the object.
+    pub was_delegated: bool,
+    /// The program context wrote or got the object after the last of them.
+    pub was_freed: bool,
+    /// Operations read the object, which is writable.
     pub was_read: bool,
-    /// The last epoch in which an operation was delegated to the object or, if it is writable,
-    /// read it.
+    /// The stamp: the last epoch in which an operation was delegated to the object or, if it is
+    /// writable, read it.
     pub epoch: u64,
     /// The set of the last delegation. Of an object by sequence the only one it can have, from the
     /// start.
@@ -40,6 +44,8 @@ pub fn fresh_cell(by: Option<By>, sequence_objects: u64) -> Cell
 {
     Cell {
         by,
+        was_delegated: false,
+        was_freed: false,
         was_read: false,
         epoch: 0,
         set: SetId(sequence_objects),
@@ -63,16 +69,33 @@ impl Cell {
     {
         Mark {
             serializer: serializer_in(self.by, self.set.0),
-            set: self.held(epochs, is_open),
+            set: self.last_set(epochs, is_open),
+            is_held: self.is_held(epochs, is_open),
             shared: self.is_shared(epochs, is_open),
         }
     }
 
-    /// The set in that mark.
-    pub fn held(&self, epochs: u64, is_open: bool) -> Option<SetId>
+    fn last_set(&self, epochs: u64, is_open: bool) -> Option<SetId>
         ensures { result ≡ (mark_in epochs is_open self.now).set }
     {
-        if self.is_stamped(epochs, is_open) && !self.was_read {
+        if self.is_stamped(epochs, is_open) && self.was_delegated {
+            Some(self.set)
+        } else {
+            None
+        }
+    }
+
+    fn is_held(&self, epochs: u64, is_open: bool) -> bool
+        ensures { result ≡ (mark_in epochs is_open self.now).is_held }
+    {
+        self.is_stamped(epochs, is_open) && self.was_delegated && !self.was_freed
+    }
+
+    /// The set that an object with that mark is held to.
+    pub fn held(&self, epochs: u64, is_open: bool) -> Option<SetId>
+        ensures { option_map (λ set. set.0) result ≡ held_in (mark_in epochs is_open self.now) }
+    {
+        if self.is_held(epochs, is_open) {
             Some(self.set)
         } else {
             None
@@ -105,29 +128,51 @@ impl Cell {
         }
     }
 
-    /// Holds the object to the set of an operation in the open epoch, in which it isn't shared.
+    /// Holds the object to the set of an operation in the open epoch.
     pub fn hold(&mut self, epochs: u64, set: SetId)
-        requires unshared { (mark_in epochs true self.old).shared ≡ false }
         ensures mark { (object own : ℕ) →
             set.0 ≡ set_under (mark_in epochs true self.old).serializer object own →
             mark_in epochs true self.new ≡ with_set object own (mark_in epochs true self.old) }
         ensures stamped { IsStamped epochs self.new }
     {
-        self.was_read = false;
-        self.epoch = epochs;
+        self.stamp(epochs);
+        self.was_delegated = true;
+        self.was_freed = false;
         self.set = set;
     }
 
-    /// Marks that an operation in the open epoch reads the object, if it is writable. It isn't held
-    /// to a set then.
+    /// Marks that an operation in the open epoch reads the object, if it is writable.
     pub fn share(&mut self, epochs: u64)
-        requires free { IsFree (mark_in epochs true self.old) }
         ensures mark { mark_in epochs true self.new ≡ with_reader (mark_in epochs true self.old) }
         ensures stamped { IsStamped epochs self.old → IsStamped epochs self.new }
     {
         if self.by.is_some() {
+            self.stamp(epochs);
             self.was_read = true;
+        }
+    }
+
+    /// Frees the object of the set that it is held to, if it is. It needs no stamp: what an older
+    /// one tells of doesn't count any more.
+    pub fn free(&mut self)
+        ensures mark { (epochs : ℕ) (is_open : Bool) →
+            mark_in epochs is_open self.new ≡ freed_mark (mark_in epochs is_open self.old) }
+        ensures stamped { (epochs : ℕ) → IsStamped epochs self.old → IsStamped epochs self.new }
+    {
+        self.was_freed = true;
+    }
+
+    // Stamps the cell with the open epoch. What was done in an earlier one is forgotten.
+    fn stamp(&mut self, epochs: u64)
+        ensures mark { mark_in epochs true self.new ≡ mark_in epochs true self.old }
+        ensures by { self.new.by ≡ self.old.by }
+        ensures epoch { self.new.epoch ≡ epochs }
+    {
+        if self.epoch != epochs {
             self.epoch = epochs;
+            self.was_delegated = false;
+            self.was_freed = false;
+            self.was_read = false;
         }
     }
 }

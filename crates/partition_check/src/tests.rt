@@ -3,6 +3,8 @@
 // row, can't be reached by a test.
 
 ghost use Rattle.std.specs.Prelude.{◌^◌, ◌<◌};
+ghost use Rattle.execution_definitions.specs.Meanings.{number_given};
+ghost use Rattle.partition_check.specs.MarkedAfter.{HasMark};
 
 use crate::{MarkFault, Marks, Refusal};
 use execution_definitions::By;
@@ -31,24 +33,25 @@ fn refusal(marks: &mut Marks, call: Call) -> Option<Refusal> {
         Call::End => marks.end().err(),
         Call::Delegate(o, own, reading) => delegate(marks, ObjectId(o), own, reading),
         Call::Write(o) => match marks.check_write(ObjectId(o)) {
-            Ok(()) => count(marks),
+            Ok(()) => note(marks, Some(ObjectId(o))),
             Err(refusal) => Some(refusal),
         },
         Call::Get(o) => match marks.check_get(ObjectId(o)) {
-            Ok(()) => count(marks),
+            Ok(()) => note(marks, Some(ObjectId(o))),
             Err(refusal) => Some(refusal),
         },
         Call::Total => match marks.check_total() {
-            Ok(()) => count(marks),
+            Ok(()) => note(marks, None),
             Err(refusal) => Some(refusal),
         },
     }
 }
 
-fn count(marks: &mut Marks) -> Option<Refusal>
-    requires { marks.old.calls < 2 ^ 60 }
+fn note(marks: &mut Marks, o: Option<ObjectId>) -> Option<Refusal>
+    requires room { marks.old.calls < 2 ^ 60 }
+    requires known { HasMark (number_given o) marks.old.objects }
 {
-    marks.note_call();
+    marks.note_call(o);
     None
 }
 
@@ -67,6 +70,13 @@ fn check_and_note(marks: &mut Marks, o: ObjectId) -> Result<SetId, Refusal> {
     Ok(set)
 }
 
+fn private(object: u32, set: u64) -> Option<Refusal> {
+    Some(Refusal::Private {
+        object: ObjectId(object),
+        set: SetId(set),
+    })
+}
+
 fn two_sets(object: u32, first: u64, second: u64) -> Option<Refusal> {
     Some(Refusal::TwoSets {
         object: ObjectId(object),
@@ -79,10 +89,6 @@ fn two_sets(object: u32, first: u64, second: u64) -> Option<Refusal> {
 fn the_first_refusal_of_a_row_is_answered(rt: HostRuntime) {
     use Call::*;
     use Refusal::*;
-    let private = Private {
-        object: ObjectId(1),
-        set: SetId(1),
-    };
     let script = [
         // object 0 is read-only, 1 and 2 are by object, 3 by operation
         (Make(None), None),
@@ -107,7 +113,7 @@ fn the_first_refusal_of_a_row_is_answered(rt: HostRuntime) {
         (Delegate(2, 0, Some(2)), Some(Shared(ObjectId(2)))),
         (Delegate(2, 0, Some(1)), Some(Shared(ObjectId(2)))),
         (Delegate(1, 0, Some(1)), Some(SelfRead(ObjectId(1)))),
-        (Delegate(3, 5, Some(1)), Some(private)),
+        (Delegate(3, 5, Some(1)), private(1, 1)),
         (Write(9), Some(UnknownObject(ObjectId(9)))),
         (Write(0), Some(ReadOnly(ObjectId(0)))),
         (Write(2), Some(Shared(ObjectId(2)))),
@@ -124,6 +130,56 @@ fn the_first_refusal_of_a_row_is_answered(rt: HostRuntime) {
         (Begin, None),
         (Delegate(3, 6, Some(1)), None),
         (Delegate(2, 0, None), None),
+    ];
+    let mut marks = Marks::new(rt.alloc());
+    for (place, (call, wanted)) in script.iter().enumerate() {
+        assert_eq!(rt; refusal(&mut marks, *call), *wanted, "at {place}");
+    }
+}
+
+#[test]
+fn a_write_or_a_get_frees_its_object_alone(rt: HostRuntime) {
+    use Call::*;
+    use Refusal::*;
+    let script = [
+        // objects 0 and 1 are by operation, 2 is by object
+        (Make(Some(By::Own)), None),
+        (Make(Some(By::Own)), None),
+        (Make(Some(By::Object)), None),
+        (Begin, None),
+        // freed by a get, by a write and twice: another set after each
+        (Delegate(0, 1, None), None),
+        (Get(0), None),
+        (Delegate(0, 2, None), None),
+        (Delegate(0, 1, None), two_sets(0, 2, 1)),
+        (Write(0), None),
+        (Delegate(0, 3, None), None),
+        (Write(0), None),
+        (Get(0), None),
+        (Delegate(0, 1, None), None),
+        // not by a call of another object, nor by one that is refused
+        (Get(1), None),
+        (Write(2), None),
+        (Write(9), Some(UnknownObject(ObjectId(9)))),
+        (Total, Some(Isolating)),
+        (Delegate(0, 2, None), two_sets(0, 1, 2)),
+        (Delegate(1, 4, Some(0)), private(0, 1)),
+        // read after it was freed, and read-shared from then on, whatever follows
+        (Get(0), None),
+        (Delegate(1, 4, Some(0)), None),
+        (Get(0), None),
+        (Delegate(0, 1, None), Some(Shared(ObjectId(0)))),
+        (Write(0), Some(Shared(ObjectId(0)))),
+        (Delegate(2, 0, Some(0)), None),
+        // a new epoch holds it to nothing, and a total frees nothing in any
+        (End, None),
+        (Delegate(0, 5, None), Some(NotIsolating)),
+        (Total, None),
+        (Begin, None),
+        (Delegate(0, 6, None), None),
+        (Delegate(1, 5, Some(2)), None),
+        (Delegate(0, 5, None), two_sets(0, 6, 5)),
+        (Delegate(1, 5, Some(0)), private(0, 6)),
     ];
     let mut marks = Marks::new(rt.alloc());
     for (place, (call, wanted)) in script.iter().enumerate() {
@@ -167,6 +223,9 @@ fn marks_tell_the_calls_the_epoch_and_the_sets(rt: HostRuntime) {
         assert_eq!(rt; marks.delegated_to(ObjectId(object)), set, "at {object}");
     }
     assert_eq!(rt; (marks.epoch(), marks.calls()), (1, 7));
+    // freed, the object has a last delegation all the same
+    assert_eq!(rt; refusal(&mut marks, Call::Get(2)), None);
+    assert_eq!(rt; marks.delegated_to(ObjectId(2)), Some(SetId(1)));
     assert_eq!(rt; marks.end(), Ok(()));
     assert_eq!(rt; marks.delegated_to(ObjectId(2)), None);
 }

@@ -1,13 +1,14 @@
 // The checks: what a call would be answered, with nothing changed.
 
-ghost use Rattle.std.specs.Prelude.{◌≡◌, List, IfOk};
+ghost use Rattle.std.specs.Prelude.{◌≡◌, ◌<◌, List, length, OnOk, IfOk};
 ghost use Rattle.execution_definitions.specs.Shapes.{Shape, delegate, write, get, total};
 ghost use Rattle.execution_definitions.specs.Sets.{set_of as set_in};
 ghost use Rattle.execution_definitions.specs.Refusals.{if_reading};
 ghost use Rattle.partition_check.specs.Marked.{mark_at, set_marked, set_delegated};
 ghost use Rattle.partition_check.specs.Judged.{judged, judged_write, judged_delegate, unknown_read, private_read};
 ghost use Rattle.partition_check.specs.Represents.{Represents, IsDelegatedTo};
-ghost use Rattle.partition_check.specs.Answers.{Answers, AnswersRule, number_read};
+ghost use Rattle.execution_definitions.specs.Meanings.{number_given};
+ghost use Rattle.partition_check.specs.Answers.{Answers, AnswersRule};
 
 use super::{Marks, room_for_a_call};
 use crate::mark::Mark;
@@ -23,8 +24,8 @@ impl Marks {
         own: u64,
         reading: Option<ObjectId>,
     ) -> Result<SetId, Refusal>
-        ensures judged { Answers result (judged self.now (delegate o.0 own (number_read reading))) }
-        ensures breaks { AnswersRule result self.now (delegate o.0 own (number_read reading)) }
+        ensures judged { Answers result (judged self.now (delegate o.0 own (number_given reading))) }
+        ensures breaks { AnswersRule result self.now (delegate o.0 own (number_given reading)) }
 
         // The set by the marks, and by every list that they represent.
         ensures set_marked { let mark = mark_at self.now o.0 in
@@ -39,6 +40,7 @@ impl Marks {
     pub fn check_write(&self, o: ObjectId) -> Result<(), Refusal>
         ensures judged { Answers result (judged self.now (write o.0)) }
         ensures breaks { AnswersRule result self.now (write o.0) }
+        ensures known { OnOk result (o.0 < length self.now.objects) }
     {
         self.judge_write(o)
     }
@@ -47,6 +49,7 @@ impl Marks {
     pub fn check_get(&self, o: ObjectId) -> Result<(), Refusal>
         ensures judged { Answers result (judged self.now (get o.0)) }
         ensures breaks { AnswersRule result self.now (get o.0) }
+        ensures known { OnOk result (o.0 < length self.now.objects) }
     {
         if self.mark(o).is_none() {
             return Err(Refusal::UnknownObject(o));
@@ -65,8 +68,9 @@ impl Marks {
         room_for_a_call(self.calls)
     }
 
-    /// The set to which `o` was delegated in this epoch. None in aggregation, for an object that
-    /// nothing was delegated to, and for a number that no object has.
+    /// The set of the last delegation to `o` in this epoch, whether or not the object is held to it.
+    /// None in aggregation, for an object that nothing was delegated to, and for a number that no
+    /// object has.
     pub fn delegated_to(&self, o: ObjectId) -> Option<SetId>
         ensures marked { result ≡ set_delegated self.now o.0 }
         ensures calls { (calls : List Shape) → Represents self.now calls →
@@ -105,7 +109,7 @@ impl Marks {
         reading: Option<ObjectId>,
     ) -> Result<SetId, Refusal>
         ensures judged { let mark = mark_at self.now o.0 in
-            Answers result (judged_delegate self.now o.0 own (number_read reading) mark) }
+            Answers result (judged_delegate self.now o.0 own (number_given reading) mark) }
         ensures set { IfOk result (λ set. set.0 ≡ set_marked (mark_at self.now o.0) o.0 own) }
     {
         let Some(cell) = self.cells.get(o.0 as usize) else {
@@ -143,7 +147,7 @@ impl Marks {
 
     // Refuses the object to be read where its number is unknown.
     fn judge_known(&self, reading: Option<ObjectId>) -> Result<(), Refusal>
-        ensures { Answers result (if_reading (number_read reading) (unknown_read self.now)) }
+        ensures { Answers result (if_reading (number_given reading) (unknown_read self.now)) }
     {
         let Some(read) = reading else {
             return Ok(());
@@ -156,7 +160,7 @@ impl Marks {
 
     // Refuses the object to be read where it is writable and held to a set.
     fn judge_private(&self, reading: Option<ObjectId>) -> Result<(), Refusal>
-        ensures { Answers result (if_reading (number_read reading) (private_read self.now)) }
+        ensures { Answers result (if_reading (number_given reading) (private_read self.now)) }
     {
         let Some(read) = reading else {
             return Ok(());

@@ -1,35 +1,17 @@
-use Rattle.std.proofs.Common.{◌≡◌, ◌<◌, true, Some, length, ap, refl, sym, arith, ◌∙◌}
+use Rattle.std.proofs.Common.{◌≡◌, true, Some, ap, refl, sym, ◌∙◌}
 use Rattle.std.specs.Prelude.{slice_get}
-use Rattle.std.proofs.lemmas.List.{length-map}
 use Rattle.partition_check.specs.Cells.{mark_in}
 use Rattle.partition_check.specs.Marked.{mark_at}
 use Rattle.partition_check.specs.MarkedAfter.{with_set}
-use Rattle.partition_check.proofs.CellsLemmas.{slice_get-cell, map-changed_at}
+use Rattle.partition_check.proofs.CellsLemmas.{within_cells, slice_get-cell, map-changed_at}
 use Rattle.partition_check.proofs.marks.Marks.hold.Goals as goal
-
-pub hold-requires : goal.hold-requires
-hold-requires c =
-    let i = c.self.inside in
-    let opened : i.is_open ≡ true = ap (λ v. v.is_open) c.self.view_is ∙ c.requires.isolating in
-    let known : c.args.o.0 < length i.cells.items =
-    (let n = ap (λ v. length v.objects) c.self.view_is in
-    let m = length-map i.cells.items (mark_in i.epochs i.is_open) in
-    omega (arith, n, m, c.requires.known)) in
-    let there : mark_at c.args.self.now c.args.o.0
-    ≡ Some (mark_in i.epochs true c.index_mut.result.now) =
-    ap (λ v. slice_get v.objects c.args.o.0) (sym c.self.view_is)
-    ∙ slice_get-cell i.epochs i.is_open i.cells.items c.args.o.0 c.index_mut.result.now
-    opened known c.index_mut.ensures.value in
-    record { unshared = c.requires.unshared _ there }
 
 pub returns : goal.returns
 returns c = λ own same.
     let i = c.self.inside in
     let opened : i.is_open ≡ true = ap (λ v. v.is_open) c.self.view_is ∙ c.requires.isolating in
-    let known : c.args.o.0 < length i.cells.items =
-    (let n = ap (λ v. length v.objects) c.self.view_is in
-    let m = length-map i.cells.items (mark_in i.epochs i.is_open) in
-    omega (arith, n, m, c.requires.known)) in
+    let known = within_cells i.epochs i.is_open i.cells.items _ c.args.o.0
+    (ap (λ v. v.objects) c.self.view_is) c.requires.known in
     let there : mark_at c.args.self.now c.args.o.0
     ≡ Some (mark_in i.epochs true c.index_mut.result.now) =
     ap (λ v. slice_get v.objects c.args.o.0) (sym c.self.view_is)
@@ -39,5 +21,6 @@ returns c = λ own same.
     rw (
       ← c.self.view_is,
       map-changed_at i.epochs i.is_open i.cells.items c.args.o.0 c.index_mut.result.now
-          c.hold.new.self (with_set c.args.o.0 own) opened known c.index_mut.ensures.value is,
+          c.hold.new.self (with_set c.args.o.0 own) known c.index_mut.ensures.value
+          (rw opened is),
     ) refl
