@@ -1,6 +1,7 @@
 // What is operated on.
-ghost use Rattle.std.specs.Prelude.{◌≡◌, ℕ, Option, None, IfOk, OnOk};
+ghost use Rattle.std.specs.Prelude.{◌≡◌, None, IfOk, OnOk};
 ghost use Rattle.std.specs.Option.{option_copied};
+ghost use Rattle.execution_definitions.specs.Meanings.{Meaning};
 
 use crate::reducible::Reducible;
 use ss_base::OutOfMemory;
@@ -14,13 +15,9 @@ pub trait Class: Sized + Send + Sync + Drop {
     /// What operations contribute to.
     type Red: Reducible + 'static;
 
-    /// What an operation means: of a value, an operation and the value read, if one is, the new
-    /// value and the contribution. It is total, so an operation that does not fit a value says what
-    /// it does there too.
-    ghost step: { Self → Self.Op → Option Self → Self × Self.Red };
-
-    /// The serialization set that an operation names for itself.
-    ghost own: { Self.Op → ℕ };
+    /// What operations do to values, which sets they name, and what their contributions come to.
+    /// Its `step` is total, so an operation that does not fit a value says what it does there too.
+    ghost meaning: { Meaning Self Self.Op Self.Red };
 
     /// Applies `op` to this value, and joins its contribution into `red`. After an `OutOfMemory`
     /// nothing is said of either.
@@ -31,18 +28,24 @@ pub trait Class: Sized + Send + Sync + Drop {
         reading: Option<&Self>,
         red: &mut Self::Red,
     ) -> Result<(), OutOfMemory>
-        ensures value { let after = step self.old op.now (option_copied reading.entry) in
+        ensures value { let after = meaning.step self.old op.now (option_copied reading.entry) in
             OnOk result (self.new ≡ after.0) }
-        ensures contribution { let after = step self.old op.now (option_copied reading.entry) in
-            OnOk result (red.new ≡ Self.Red.join_of red.old after.1) };
+        ensures contribution { let after = meaning.step self.old op.now (option_copied reading.entry) in
+            OnOk result (red.new ≡ meaning.join red.old after.1) };
 
     /// The serialization set that `op` names for itself. It takes no memory.
     fn own_set(op: &Self::Op) -> u64
-        ensures { result ≡ own op.now };
+        ensures { result ≡ meaning.own op.now };
 
     /// A second value, equal to this one.
     fn copy(&self, alloc: Global) -> Result<Self, OutOfMemory>
         ensures { IfOk result (λ copy. copy ≡ self.now) };
+
+    /// The total before the first contribution is the unit.
+    ghost same_unit: { meaning.unit ≡ Self.Red.unit_value };
+
+    /// Contributions are joined as the reducible joins.
+    ghost same_join: { meaning.join ≡ Self.Red.join_of };
 }
 
 /// That an operation reads no value. A literal `None` in its place would leave a call of

@@ -1,8 +1,8 @@
 //! Classes, whose values are operated on, and reducibles, which many operations contribute to.
 //!
-//! A program delegates operations on values of a class. What an operation means is the class's
-//! `step`, and what it contributes is joined in any order, since each reducible proves that the
-//! order doesn't matter.
+//! A program delegates operations on values of a class. What they mean is the class's `meaning`,
+//! and what they contribute is joined in any order, since each reducible proves that the order
+//! doesn't matter.
 #![tactic(auto)]
 
 mod both;
@@ -16,7 +16,7 @@ mod reducible;
 pub use both::Both;
 pub use class::{Class, no_reading};
 pub use count_map::CountMap;
-pub use local::{LocalClass, LocalReducible};
+pub use local::{LocalClass, LocalReducible, local_reducible_laws};
 pub use numbers::{Max, WrapSum};
 pub use reducible::{Reducible, reducible_laws};
 

@@ -10,8 +10,9 @@
 //! - What starts a thread is a free function or a `final fn` of a trait, and takes `C: Class`.
 //! - A type implements `Reducible` or `Class`. Each of these is its own twin, with the same meaning
 //!   under the same names behind `local_`, so nobody implements a twin.
-ghost use Rattle.std.specs.Prelude.{◌≡◌, ℕ, Option, IfOk, OnOk};
+ghost use Rattle.std.specs.Prelude.{◌≡◌, IfOk, OnOk};
 ghost use Rattle.std.specs.Option.{option_copied};
+ghost use Rattle.execution_definitions.specs.Meanings.{Meaning};
 ghost use Rattle.class_laws.specs.Laws.{ReducibleLaws};
 
 use crate::class::Class;
@@ -64,6 +65,12 @@ impl<R: Reducible> LocalReducible for R {
     }
 }
 
+/// The laws of any reducible, as a fact for the proof of a caller that a method of an impl calls.
+/// Nothing runs.
+pub fn local_reducible_laws<R: LocalReducible>()
+    ensures { ReducibleLaws R.local_unit_value R.local_join_of }
+{}
+
 /// `Class` for a helper that a method of an impl calls, where a bound may not hold `Send` or
 /// `Sync`. Everywhere else, and to implement, take `Class`.
 pub trait LocalClass: Sized + Drop {
@@ -73,11 +80,8 @@ pub trait LocalClass: Sized + Drop {
     /// `Class::Red`.
     type LocalRed: LocalReducible;
 
-    /// `Class`'s `step`.
-    ghost local_step: { Self → Self.LocalOp → Option Self → Self × Self.LocalRed };
-
-    /// `Class`'s `own`.
-    ghost local_own: { Self.LocalOp → ℕ };
+    /// `Class`'s `meaning`.
+    ghost local_meaning: { Meaning Self Self.LocalOp Self.LocalRed };
 
     /// `Class::apply`.
     fn local_apply(
@@ -87,18 +91,24 @@ pub trait LocalClass: Sized + Drop {
         reading: Option<&Self>,
         red: &mut Self::LocalRed,
     ) -> Result<(), OutOfMemory>
-        ensures value { let after = local_step self.old op.now (option_copied reading.entry) in
+        ensures value { let after = local_meaning.step self.old op.now (option_copied reading.entry) in
             OnOk result (self.new ≡ after.0) }
-        ensures contribution { OnOk result (red.new ≡ Self.LocalRed.local_join_of red.old
-            (local_step self.old op.now (option_copied reading.entry)).1) };
+        ensures contribution { let after = local_meaning.step self.old op.now (option_copied reading.entry) in
+            OnOk result (red.new ≡ local_meaning.join red.old after.1) };
 
     /// `Class::own_set`.
     fn local_own_set(op: &Self::LocalOp) -> u64
-        ensures { result ≡ local_own op.now };
+        ensures { result ≡ local_meaning.own op.now };
 
     /// `Class::copy`.
     fn local_copy(&self, alloc: Global) -> Result<Self, OutOfMemory>
         ensures { IfOk result (λ copy. copy ≡ self.now) };
+
+    /// `Class`'s `same_unit`.
+    ghost local_same_unit: { local_meaning.unit ≡ Self.LocalRed.local_unit_value };
+
+    /// `Class`'s `same_join`.
+    ghost local_same_join: { local_meaning.join ≡ Self.LocalRed.local_join_of };
 }
 
 impl<C: Class> LocalClass for C {
@@ -106,9 +116,11 @@ impl<C: Class> LocalClass for C {
 
     type LocalRed = C::Red;
 
-    ghost local_step = { C.step };
+    ghost local_meaning = { C.meaning };
 
-    ghost local_own = { C.own };
+    ghost local_same_unit = { C.same_unit };
+
+    ghost local_same_join = { C.same_join };
 
     fn local_apply(
         &mut self,
@@ -116,12 +128,7 @@ impl<C: Class> LocalClass for C {
         op: &C::Op,
         reading: Option<&C>,
         red: &mut C::Red,
-    ) -> Result<(), OutOfMemory>
-        ensures value { let after = C.step self.old op.now (option_copied reading.entry) in
-            OnOk result (self.new ≡ after.0) }
-        ensures contribution { let after = C.step self.old op.now (option_copied reading.entry) in
-            OnOk result (red.new ≡ C.Red.join_of red.old after.1) }
-    {
+    ) -> Result<(), OutOfMemory> {
         self.apply(alloc, op, reading, red)
     }
 

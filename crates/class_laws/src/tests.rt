@@ -4,8 +4,8 @@ ghost use Rattle.std.specs.Prelude.{◌≡◌, ◌+◌, ◌%◌, ◌^◌};
 ghost use Rattle.std.specs.Option.{option_map, unwrap_or};
 
 use crate::{
-    Both, Class, CountMap, LocalClass, LocalReducible, Max, Reducible, WrapSum, no_reading,
-    reducible_laws,
+    Both, Class, CountMap, LocalClass, LocalReducible, Max, Reducible, WrapSum,
+    local_reducible_laws, no_reading, reducible_laws,
 };
 use ss_base::OutOfMemory;
 use std::alloc::Global;
@@ -23,12 +23,22 @@ impl Class for Word {
 
     type Red = WrapSum;
 
-    ghost step = { λ word op read. (
-      record { 0 = (word.0 + op.0) % 2 ^ 32 },
-      record { 0 = unwrap_or (option_map (λ (other : _). other.0) read) 0 },
-    ) };
+    ghost use Rattle.std.specs.Prelude.{refl};
+    ghost use Rattle.class_laws.specs.Numbers.{wrap_sum_unit, wrap_sum_join};
 
-    ghost own = { λ op. op.0 };
+    ghost meaning = { record {
+      step = λ word op read. (
+        record { 0 = (word.0 + op.0) % 2 ^ 32 },
+        record { 0 = unwrap_or (option_map (λ (other : _). other.0) read) 0 },
+      );
+      own = λ op. op.0;
+      unit = wrap_sum_unit;
+      join = wrap_sum_join;
+    } };
+
+    ghost same_unit = { refl };
+
+    ghost same_join = { refl };
 
     fn apply(
         &mut self,
@@ -127,6 +137,7 @@ fn a_join_adds_the_counts_of_a_key(rt: HostRuntime) -> Result<(), Fail> {
 fn a_pair_joins_each_part_with_its_like(rt: HostRuntime) -> Result<(), Fail> {
     let alloc = rt.alloc();
     reducible_laws::<Both<WrapSum, Max>>();
+    local_reducible_laws::<Both<WrapSum, Max>>();
     let both = join_of(alloc, Both(WrapSum(1), Max(2)), Both(WrapSum(3), Max(1)))?;
     assert_eq!(rt; both, Both(WrapSum(4), Max(2)));
     let both = Parts(Both(WrapSum(u64::MAX), Max(7)), both).gather(alloc)?;
