@@ -1,7 +1,7 @@
 -- A number of a text is a place at which it stands, the only one where texts are distinct.
-use Rattle.std.proofs.Common.{◌≡◌, ◌≢◌, ℕ, ◌<◌, ◌≤◌, List, [], ◌∷◌, ◌++◌, length, get_or}
+use Rattle.std.proofs.Common.{◌≡◌, ◌≢◌, ℕ, zero, suc, ◌+◌, ◌<◌, ◌≤◌, List, [], ◌∷◌, ◌++◌, length, get_or}
 use Rattle.std.proofs.Common.{Some, None}
-use Rattle.std.proofs.Common.{is_some, cond, ltb, true, false, sym, ◌∙◌, ap, ⊎_elim, arith}
+use Rattle.std.proofs.Common.{is_some, cond, ltb, drop, not, true, false, sym, ◌∙◌, ap, ⊎_elim, arith}
 use Rattle.std.proofs.lemmas.Bool.{cases_lt, false_from_ne_true}
 use Rattle.std.proofs.lemmas.Bool.Decides.{Decides-ltb}
 use Rattle.std.proofs.lemmas.List.Quantifiers.{position-Some, all_pairs_push}
@@ -9,6 +9,7 @@ use Rattle.std.proofs.lemmas.List.Sums.{position_or_len_is, fails_before_first, 
 use Rattle.std.proofs.lemmas.Option.{slice_get_within, get_or_from_slice_get, slice_get-get_or}
 use Rattle.std.proofs.lemmas.Slice.Eq.{bytes_eq-Decides}
 use Rattle.std.specs.List.{slice_get, position_or_len}
+use Rattle.std.specs.Option.{option_map}
 use Rattle.std.specs.Str.{bytes_eq}
 use Rattle.text_table.specs.TextTables.{number_of, with_text, AreDistinct}
 
@@ -22,6 +23,51 @@ place_past place len past =
     ap (λ b. cond b (Some place) None)
     (false_from_ne_true (ltb place len) (λ yes.
     let within : place < len = (Decides-ltb place len).0 yes in omega arith))
+
+one_behind : (place len : ℕ) → cond (ltb (1 + place) (suc len)) (Some (1 + place)) None
+    ≡ option_map suc (cond (ltb place len) (Some place) None)
+one_behind place len =
+    ⊎_elim
+    (λ (within : place < len).
+    let next : 1 + place ≡ suc place = omega arith in
+    place_within (1 + place) (suc len) (omega arith) ∙ ap Some next
+    ∙ sym (ap (option_map suc) (place_within place len within)))
+    (λ (past : len ≤ place).
+    place_past (1 + place) (suc len) (omega arith)
+    ∙ sym (ap (option_map suc) (place_past place len past)))
+    (cases_lt place len)
+
+-- the number of a text that isn't first is 1 more than among the others
+pub number_of-cons : (first text : List ℕ) (rest : List (List ℕ))
+    → number_of (first ∷ rest) text
+    ≡ cond (bytes_eq text first) (Some 0) (option_map suc (number_of rest text))
+unfolding number_of
+number_of-cons first text rest =
+    let behind = position_or_len (bytes_eq text) rest in
+    elim (bytes_eq text first) as (λ b.
+    let place = cond (not b) (1 + behind) 0 in
+    cond (ltb place (length (first ∷ rest))) (Some place) None
+    ≡ cond b (Some 0) (option_map suc (cond (ltb behind (length rest)) (Some behind) None))) [
+      | true ↦ place_within 0 (length (first ∷ rest)) (omega arith)
+      | false ↦ one_behind behind (length rest)
+    ]
+
+-- no text has a number in the empty list
+pub number_of-nil : (text : List ℕ) → number_of [] text ≡ None
+unfolding number_of
+number_of-nil text = place_past 0 0 (omega arith)
+
+AreDistinct-tail : (first : List ℕ) (rest : List (List ℕ)) → AreDistinct (first ∷ rest)
+    → AreDistinct rest
+AreDistinct-tail first rest distinct i j d before within =
+    distinct (suc i) (suc j) d (omega arith) (omega arith)
+
+pub AreDistinct-drop : (n : ℕ) (texts : List (List ℕ)) → AreDistinct texts
+    → AreDistinct (drop n texts)
+AreDistinct-drop zero texts distinct = distinct
+AreDistinct-drop (suc n) [] distinct = distinct
+AreDistinct-drop (suc n) (first ∷ rest) distinct =
+    AreDistinct-drop n rest (AreDistinct-tail first rest distinct)
 
 module _ (texts : List (List ℕ)) (text : List ℕ) where
   stands_at : (n : ℕ) → slice_get texts n ≡ Some text → bytes_eq text (get_or texts n text) ≡ true
@@ -99,3 +145,14 @@ module _ (texts : List (List ℕ)) (text : List ℕ) where
   pub with_text-new : number_of texts text ≡ None → with_text texts text ≡ texts ++ text ∷ []
   unfolding with_text
   with_text-new none = ap (λ o. cond (is_some o) texts (texts ++ text ∷ [])) none
+
+-- the first text has no number among the others
+pub AreDistinct-first : (first : List ℕ) (rest : List (List ℕ)) → AreDistinct (first ∷ rest)
+    → (number_of rest first ≡ None) × AreDistinct rest
+AreDistinct-first first rest distinct = (
+  number_of-none rest first (λ n at.
+      let within = slice_get_within rest n first at in
+      distinct 0 (suc n) first (omega arith) (omega arith)
+      (sym (get_or_from_slice_get rest n first first at))),
+  AreDistinct-tail first rest distinct,
+)

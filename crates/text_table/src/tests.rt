@@ -1,7 +1,9 @@
 // What no clause says: that the calls succeed where there is memory, and that the definitions mean
 // what they are meant to, by numbers worked out by hand.
-use crate::TextTable;
 use crate::tag::tag_of_text;
+use crate::{TextMap, TextTable};
+use ss_base::OutOfMemory;
+use std::alloc::Global;
 use std::test::Fail;
 
 // Texts as they come, each with its number.
@@ -67,6 +69,35 @@ fn a_copy_stays_as_it_is(rt: HostRuntime) -> Result<(), Fail> {
     assert_eq!(rt; copy.len(), 2);
     assert_eq!(rt; copy.number_of("be"), Some(1));
     assert_eq!(rt; copy.number_of("or"), None);
+    Ok(())
+}
+
+// Counts the texts as they come.
+fn counted(alloc: Global) -> Result<TextMap<u32>, OutOfMemory> {
+    let mut counts: TextMap<u32> = TextMap::new(alloc);
+    for (text, _) in &INSERTED {
+        match counts.look_up(text) {
+            Ok(number) => {
+                let count = counts.value_mut(number);
+                *count = count.wrapping_add(1);
+            }
+            Err(absent) => {
+                counts.insert_absent(absent, text, 1)?;
+            }
+        }
+    }
+    Ok(counts)
+}
+
+#[test]
+fn a_map_keeps_a_value_for_each_text(rt: HostRuntime) -> Result<(), Fail> {
+    let counts = counted(rt.alloc())?;
+    let copy = counts.copy()?;
+    assert_eq!(rt; copy.len(), 6);
+    assert_eq!(rt; copy.get("be").copied(), Some(2));
+    assert_eq!(rt; copy.get("or").copied(), Some(1));
+    assert_eq!(rt; copy.get("not").copied(), None);
+    assert_eq!(rt; copy.values(), counts.values());
     Ok(())
 }
 
