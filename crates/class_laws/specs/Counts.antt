@@ -3,15 +3,9 @@
 -- A text is its list of bytes, and a key that is absent counts as 0. Counts are sums modulo 2^64.
 use Rattle.std.specs.Prelude.{ℕ, List, ◌+◌, ◌%◌, ◌^◌, ◌++◌, map}
 use Rattle.std.specs.Option.{unwrap_or}
-use Rattle.std.specs.Ordering.{nat_cmp}
-use Rattle.std.specs.declared.cmp.Ordering.{Ordering}
-use Rattle.std.specs.Cmp.Lexicographic.{slice_cmp}
 use Rattle.std.specs.FinMap as finite
 use Rattle.std.specs.FinMap.{FinMap}
-
--- the order of texts, by their bytes
-abbrev pub text_order : List ℕ → List ℕ → Ordering
-text_order = slice_cmp nat_cmp
+pub use Rattle.text_table.specs.TextMaps.{text_order}
 
 -- a finite map from texts to counts
 abbrev pub Counts : Type 0

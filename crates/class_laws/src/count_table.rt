@@ -1,59 +1,34 @@
 // A table of counts by text, behind a contract that says nothing of how it is kept.
-ghost use Rattle.std.specs.Prelude.{◌≡◌, [], ◌∷◌, ◌++◌, None, IfOk, OnOk, OnErr};
+ghost use Rattle.std.specs.Prelude.{◌≡◌, None, IfOk, OnOk, OnErr};
 ghost use Rattle.std.specs.FinMap as finite;
-ghost use Rattle.text_table.specs.Tags.{tag_of};
-ghost use Rattle.text_table.specs.TextTables.{number_of};
 ghost use Rattle.class_laws.specs.Counts.{count_of, counts_after_add, counts_join};
 
 use ss_base::OutOfMemory;
 use std::alloc::Global;
 use std::marker::Model;
-use text_table::{Absent, TextTable};
+use text_table::TextMap;
 
-/// A finite map from texts to counts: each text's count stands at the text's number.
+/// A finite map from texts to counts.
 #[derive(Drop)]
 pub(crate) struct CountTable {
-    texts: TextTable,
-    counts: Vec<u64>,
+    counts: TextMap<u64>,
 }
 
 impl Model for CountTable {
     ghost use Rattle.std.specs.Prelude.{ℕ};
     ghost use Rattle.std.specs.FinMap as finite;
     ghost use Rattle.std.specs.Coded.{coded_ℕ, coded_list};
+    ghost use Rattle.text_table.specs.TextMaps.{map_of};
     ghost use Rattle.class_laws.specs.Counts.{Counts};
-    ghost use Rattle.class_laws.specs.CountTables.{counts_of, ArePaired};
+    ghost use Rattle.class_laws.specs.CountTables.{AreCounts};
 
     ghost Value = { Counts };
 
     ghost coded = { finite.code (coded_list coded_ℕ) coded_ℕ };
 
-    ghost view = { λ table. counts_of table.texts table.counts.items };
+    ghost view = { λ table. map_of table.counts };
 
-    ghost invariant = { λ table. ArePaired table.texts table.counts.items };
-}
-
-// Adds a text that is not there, with its count.
-fn push_both(
-    texts: &mut TextTable,
-    counts: &mut Vec<u64>,
-    absent: Absent,
-    text: &str,
-    count: u64,
-) -> Result<(), OutOfMemory>
-    requires absent { absent ≡ tag_of text.now }
-    requires new_text { number_of texts.old text.now ≡ None }
-    ensures texts { OnOk result (texts.new ≡ texts.old ++ text.now ∷ []) }
-    ensures counts { OnOk result (counts.new.items ≡ counts.old.items ++ count ∷ []) }
-    ensures same_texts { OnErr result (texts.new ≡ texts.old) }
-    ensures same_counts { OnErr result (counts.new.items ≡ counts.old.items) }
-{
-    counts.push(count)?;
-    if let Err(error) = texts.insert_absent(absent, text) {
-        counts.pop();
-        return Err(error);
-    }
-    Ok(())
+    ghost invariant = { λ table. AreCounts table.counts };
 }
 
 impl CountTable {
@@ -62,8 +37,7 @@ impl CountTable {
         ensures { result ≡ finite.empty }
     {
         CountTable {
-            texts: TextTable::new(alloc),
-            counts: Vec::new(alloc),
+            counts: TextMap::new(alloc),
         }
     }
 
@@ -71,18 +45,17 @@ impl CountTable {
     pub(crate) fn len(&self) -> usize
         ensures { result ≡ finite.len self.now }
     {
-        self.counts.len()
+        self.counts.len() as usize
     }
 
     /// The count of a key, which is 0 for an absent key.
     pub(crate) fn count(&self, key: &str) -> u64
         ensures { result ≡ count_of self.now key.now }
     {
-        let Some(number) = self.texts.number_of(key) else {
-            return 0;
-        };
-        let counts = self.counts.as_slice();
-        counts[number as usize]
+        match self.counts.get(key) {
+            Some(count) => *count,
+            None => 0,
+        }
     }
 
     /// Adds to the count of a key, modulo 2^64, and keeps the key if it is new. An `OutOfMemory`
@@ -92,14 +65,14 @@ impl CountTable {
         ensures err { OnErr result (self.new ≡ self.old) }
         ensures new_key { OnErr result (finite.get self.old key.now ≡ None) }
     {
-        match self.texts.look_up(key) {
+        match self.counts.look_up(key) {
             Ok(number) => {
-                let count = self.counts[number as usize];
-                self.counts[number as usize] = count.wrapping_add(by);
+                let count = self.counts.value_mut(number);
+                *count = count.wrapping_add(by);
                 Ok(())
             }
             Err(absent) => {
-                push_both(&mut self.texts, &mut self.counts, absent, key, by)?;
+                self.counts.insert_absent(absent, key, by)?;
                 Ok(())
             }
         }
@@ -110,8 +83,9 @@ impl CountTable {
     pub(crate) fn pour(&mut self, other: &CountTable) -> Result<(), OutOfMemory>
         ensures { OnOk result (self.new ≡ counts_join self.old other.now) }
     {
-        for number in 0..other.texts.len() {
-            self.add(other.texts.text(number), other.counts[number as usize])?;
+        for number in 0..other.counts.len() {
+            let (key, count) = other.counts.entry(number);
+            self.add(key, *count)?;
         }
         // What is kept is below 2^64, and a proof knows so once it sees what is kept.
         let _ = &self.counts;
@@ -123,8 +97,7 @@ impl CountTable {
         ensures { IfOk result (λ copy. copy ≡ self.now) }
     {
         Ok(CountTable {
-            texts: self.texts.copy()?,
-            counts: self.counts.clone()?,
+            counts: self.counts.copy()?,
         })
     }
 }

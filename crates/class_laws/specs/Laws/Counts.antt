@@ -2,27 +2,19 @@
 -- look-ups are.
 use Rattle.std.specs.Prelude.{◌≡◌, ℕ, List, [], ◌∷◌, ◌++◌, map, ◌+◌, ◌%◌, ◌^◌, Some, None, refl}
 use Rattle.std.specs.Prelude.{true, false, cond, ◌||◌, Option, is_some}
-use Rattle.std.specs.Cmp.{IsTotalOrder}
-use Rattle.std.specs.Cmp.Lexicographic.{nat_list_cmp_total}
 use Rattle.std.specs.FinMap as finite
-use Rattle.std.specs.FinMap.{find, IsAntisymmetric}
-use Rattle.std.specs.FinMap.{nat_cmp-IsAntisymmetric, slice_cmp-IsAntisymmetric}
+use Rattle.std.specs.FinMap.{find}
 use Rattle.std.specs.List.{list_any}
 use Rattle.std.specs.Option.{unwrap_or}
 use Rattle.std.specs.Ordering.{eq_by_cmp}
 use Rattle.std.proofs.Common.{sym, ◌∙◌, ap, ap₂, arith}
 use Rattle.std.proofs.lemmas.List.Folds.{list_any-append}
 use Rattle.std.proofs.lemmas.Map.Views.{tells_apart}
+pub use Rattle.text_table.proofs.TextMapsLemmas.{text_order_total, text_order_exact}
 use Rattle.class_laws.specs.Laws.{ReducibleLaws}
 use Rattle.class_laws.specs.Counts.{Counts, text_order, count_of, sum_of_counts, counts_join}
 
 -- ---- look-ups
-
-pub text_order_total : IsTotalOrder text_order
-text_order_total = nat_list_cmp_total
-
-pub text_order_exact : IsAntisymmetric text_order
-text_order_exact = slice_cmp-IsAntisymmetric nat_cmp-IsAntisymmetric
 
 -- counts with the same look-ups are equal
 pub same_counts : (a b : Counts) → ((q : List ℕ) → finite.get a q ≡ finite.get b q) → a ≡ b
