@@ -1,40 +1,29 @@
 -- An answered call goes on from each list that the runtime was after.
 use Rattle.std.proofs.Common.{◌≡◌, List, [], ◌∷◌, ◌++◌, refl, sym, ap, ◌∙◌, subst}
 use Rattle.std.specs.Prelude.{Result, Ok, Err}
-use Rattle.std.proofs.lemmas.List.{map-append}
-use Rattle.std.proofs.lemmas.List.Sums.{fold-append}
+use Rattle.execution_definitions.specs.declared.call.Call.{Call}
+use Rattle.execution_definitions.specs.declared.call.Call.TheVariants.{Make, MakeFixed, Begin, Delegate, Write, Get, End, Total}
+use Rattle.execution_definitions.specs.declared.call.Reply.{Reply}
 use Rattle.execution_definitions.specs.Refusals.{breaks}
 use Rattle.execution_definitions.specs.Runs.{run_of}
+use Rattle.execution_definitions.specs.Meanings.{Meaning, shape_of, shapes_of}
+use Rattle.execution_definitions.specs.Sequential.{state_after}
+use Rattle.execution_definitions.proofs.SequentialLemmas.{shapes_of-push, sequential_state-push}
 use Rattle.partition_check.specs.Marked.{mark_at}
 use Rattle.partition_check.specs.Judged.{judged}
 use Rattle.partition_check.specs.Represents.{Represents}
 use Rattle.partition_check.proofs.JudgedLemmas.{set_marked-represents}
 use Rattle.partition_check.proofs.TheoremLemmas.{marks_follow}
-use Rattle.delegation.specs.declared.call.Call.{Call}
-use Rattle.delegation.specs.declared.call.Call.TheVariants.{Make, MakeFixed, Begin, Delegate, Write, Get, End, Total}
-use Rattle.delegation.specs.declared.call.Reply.{Reply}
 use Rattle.delegation.specs.declared.call.Fault.{Fault}
 use Rattle.delegation.specs.declared.call.Fault.TheVariants.{Refused, OutOfMemory}
-use Rattle.delegation.specs.Meanings.{Meaning, shape_of, shapes_of}
-use Rattle.delegation.specs.Sequential.{initial_state, state_after, sequential_state}
 use Rattle.delegation.specs.Runtimes.{RuntimeView, IsAfter, sent_to_lanes}
-use Rattle.delegation.specs.Answers.{run_now, sent_with, Accepts, Answered, Follows}
+use Rattle.delegation.specs.Answers.{run_now, sent_with, Accepts, Answered, AnswersEachList}
 use Rattle.delegation.proofs.SentLemmas.{sent_to_lanes-push}
 
 module _ {C O R : Type 0} (m : Meaning C O R) where
-  -- one call more, without delegates
-  pub sequential_state-push : (calls : List (Call C O R)) (call : Call C O R) →
-      sequential_state m (calls ++ call ∷ []) ≡ state_after m (sequential_state m calls) call
-  sequential_state-push calls call =
-      fold-append (state_after m) (initial_state m) calls (call ∷ [])
-
-  pub shapes_of-push : (calls : List (Call C O R)) (call : Call C O R) →
-      shapes_of m (calls ++ call ∷ []) ≡ shapes_of m calls ++ shape_of m.own call ∷ []
-  shapes_of-push calls call = map-append (shape_of m.own) calls (call ∷ [])
-
   -- the run by the marks is the run by the list
-  run_now-represents : (runtime : RuntimeView C R) (calls : List (Call C O R)) →
-      Represents runtime.marks (shapes_of m calls) → (call : Call C O R) →
+  run_now-represents : (runtime : RuntimeView C R) (calls : List (Call C O)) →
+      Represents runtime.marks (shapes_of m calls) → (call : Call C O) →
       run_now m runtime call ≡ run_of (shapes_of m calls) (shape_of m.own call)
   run_now-represents runtime calls r (Delegate object op reading) =
       rw (
@@ -51,7 +40,7 @@ module _ {C O R : Type 0} (m : Meaning C O R) where
   run_now-represents runtime calls r End = refl
   run_now-represents runtime calls r Total = refl
 
-  module _ (old new : RuntimeView C R) (call : Call C O R) (calls : List (Call C O R))
+  module _ (old new : RuntimeView C R) (call : Call C O) (calls : List (Call C O))
       (at : IsAfter m old calls) where
     -- the marks judge the call as the rule does
     judged-after : judged old.marks (shape_of m.own call)
@@ -67,13 +56,13 @@ module _ {C O R : Type 0} (m : Meaning C O R) where
         ∙ ap (λ run. sent_with old.delegates (sent_to_lanes (shapes_of m calls) old.delegates) run)
         (run_now-represents old calls at.marks call)
         ∙ sent_to_lanes-push (shapes_of m calls) old.delegates (shape_of m.own call)
-        ∙ rw (accepts.delegates, shapes_of-push calls call) refl
+        ∙ rw (accepts.delegates, shapes_of-push m calls call) refl
 
     accepted : Accepts m old new call → IsAfter m new (calls ++ call ∷ [])
     accepted accepts = record {
       state = accepts.state ∙ ap (λ s. state_after m s call) at.state
-          ∙ sym (sequential_state-push calls call);
-      marks = rw (accepts.marks, shapes_of-push calls call)
+          ∙ sym (sequential_state-push m calls call);
+      marks = rw (accepts.marks, shapes_of-push m calls call)
           ((marks_follow old.marks (shapes_of m calls) at.marks (shape_of m.own call)).represents
           (sym judged-after ∙ accepts.allowed));
       sent = sent-after accepts;
@@ -81,9 +70,9 @@ module _ {C O R : Type 0} (m : Meaning C O R) where
     }
 
   -- each answer holds of every list
-  pub follows : {T : Type 0} (to_reply : T → Reply C O R) (old new : RuntimeView C R)
-      (call : Call C O R) (result : Result T Fault) →
-      Answered m to_reply old new call result → Follows m old new call result
+  pub follows : {T : Type 0} (to_reply : T → Reply C R) (old new : RuntimeView C R)
+      (call : Call C O) (result : Result T Fault) →
+      Answered m to_reply old new call result → AnswersEachList m old new call result
   follows to_reply old new call (Ok value) answered = λ calls at. (
     sym (judged-after old new call calls at) ∙ answered.0.allowed,
     accepted old new call calls at answered.0,

@@ -3,3 +3,4 @@ pub mod FollowLemmas
 pub mod ProgramLemmas
 pub mod OperationLemmas
 pub mod FrontLemmas
+pub mod PlainLemmas

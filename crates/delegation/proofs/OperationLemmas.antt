@@ -1,28 +1,26 @@
 -- An operation on one of two parts of the values, which reads a value of the other part.
-use Rattle.std.proofs.Common.{◌≡◌, ℕ, zero, suc, Some, List, [], ◌∷◌, ◌++◌, length, refl, sym, ap, ◌∙◌}
+use Rattle.std.proofs.Common.{◌≡◌, ℕ, Some, List, [], ◌∷◌, ◌++◌, length, refl, sym, ap, ◌∙◌}
 use Rattle.std.specs.Prelude.{slice_get, slice_set, OnOk, Result, Ok, Err}
+use Rattle.std.proofs.Math.Seq.{set-append_seam}
 use Rattle.std.proofs.lemmas.List.{set-append_left}
 use Rattle.std.proofs.lemmas.Option.{slice_get_within}
 use Rattle.ss_base.specs.declared.ids.ObjectId.{ObjectId}
-use Rattle.delegation.specs.Meanings.{Meaning}
-use Rattle.delegation.specs.Sequential.{operated, value_read}
+use Rattle.execution_definitions.specs.Meanings.{Meaning}
+use Rattle.execution_definitions.specs.Sequential.{operated, value_read}
+use Rattle.execution_definitions.proofs.ListLemmas.{slice_get-front, slice_get-append_seam}
 use Rattle.delegation.specs.PlainParts.{state_of}
 
-slice_get-append_left : {A : Type 0} (xs ys : List A) (i : ℕ) (x : A) →
-    slice_get xs i ≡ Some x → slice_get (xs ++ ys) i ≡ Some x
-slice_get-append_left [] ys i x some = absurd cc
-slice_get-append_left (first ∷ xs) ys zero x some = some
-slice_get-append_left (first ∷ xs) ys (suc i) x some = slice_get-append_left xs ys i x some
+-- the first of a list stands at the end of a front before it
+seam_get : {A : Type 0} (xs ys : List A) (y : A) → slice_get ys 0 ≡ Some y →
+    slice_get (xs ++ ys) (length xs) ≡ Some y
+seam_get xs [] y some = absurd cc
+seam_get xs (first ∷ rest) y some = slice_get-append_seam xs first rest ∙ some
 
-slice_get-append_seam : {A : Type 0} (xs ys : List A) →
-    slice_get (xs ++ ys) (length xs) ≡ slice_get ys 0
-slice_get-append_seam [] ys = refl
-slice_get-append_seam (first ∷ xs) ys = slice_get-append_seam xs ys
-
-set-append_seam : {A : Type 0} (xs ys : List A) (y : A) →
-    slice_set (xs ++ ys) (length xs) y ≡ xs ++ slice_set ys 0 y
-set-append_seam [] ys y = refl
-set-append_seam (first ∷ xs) ys y = ap (λ rest. first ∷ rest) (set-append_seam xs ys y)
+-- and is changed there
+seam_set : {A : Type 0} (xs ys : List A) (y new : A) → slice_get ys 0 ≡ Some y →
+    slice_set (xs ++ ys) (length xs) new ≡ xs ++ slice_set ys 0 new
+seam_set xs [] y new some = absurd cc
+seam_set xs (first ∷ rest) y new some = set-append_seam xs first rest new
 
 -- what follows from two facts where they hold after Ok
 pub on_ok : {T E P Q S : Type 0} (result : Result T E) → OnOk result P → OnOk result Q →
@@ -41,11 +39,13 @@ module _ {C O R : Type 0} (m : Meaning C O R) (front back : List C) (old new : R
       (value_read (front ++ back) (Some read))
   operated-back at found reads value_is total_is =
       let here : slice_get (front ++ back) object ≡ Some value =
-      ap (λ n. slice_get (front ++ back) n) (sym at) ∙ slice_get-append_seam front back ∙ found in
+      ap (λ n. slice_get (front ++ back) n) (sym at) ∙ seam_get front back value found in
+      let there : slice_get (front ++ back) read.0 ≡ Some other =
+      slice_get-front front back read.0 (slice_get_within front read.0 other reads) ∙ reads in
       let set : slice_set (front ++ back) object after ≡ front ++ slice_set back 0 after =
-      ap (λ n. slice_set (front ++ back) n after) (sym at) ∙ set-append_seam front back after in
-      rw (here, slice_get-append_left front back read.0 other reads, total_is, sym value_is, set)
-      refl
+      ap (λ n. slice_set (front ++ back) n after) (sym at)
+      ∙ seam_set front back value after found in
+      rw (here, there, total_is, sym value_is, set) refl
 
   -- one of the front part, reading the first of the back part
   pub operated-front : length front ≡ read.0 → slice_get front object ≡ Some value →
@@ -55,9 +55,11 @@ module _ {C O R : Type 0} (m : Meaning C O R) (front back : List C) (old new : R
       ≡ operated m (state_of (front ++ back) old) object op
       (value_read (front ++ back) (Some read))
   operated-front at found reads value_is total_is =
+      let within = slice_get_within front object value found in
+      let here : slice_get (front ++ back) object ≡ Some value =
+      slice_get-front front back object within ∙ found in
       let there : slice_get (front ++ back) read.0 ≡ Some other =
-      ap (λ n. slice_get (front ++ back) n) (sym at) ∙ slice_get-append_seam front back ∙ reads in
+      ap (λ n. slice_get (front ++ back) n) (sym at) ∙ seam_get front back other reads in
       let set : slice_set (front ++ back) object after ≡ slice_set front object after ++ back =
-      set-append_left front back object after (slice_get_within front object value found) in
-      rw (slice_get-append_left front back object value found, there, total_is, sym value_is, set)
-      refl
+      set-append_left front back object after within in
+      rw (here, there, total_is, sym value_is, set) refl

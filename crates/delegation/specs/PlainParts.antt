@@ -2,10 +2,10 @@
 use Rattle.std.specs.Prelude.{◌≡◌, ℕ, ◌<◌, Bool, false, Option, Some, None, Result, Err, List, length}
 use Rattle.ss_base.specs.declared.ids.ObjectId.{ObjectId}
 use Rattle.ss_base.specs.declared.ids.Run.{Run}
+use Rattle.execution_definitions.specs.Sequential.{State}
 use Rattle.partition_check.specs.Marked.{Marked}
 use Rattle.partition_check.specs.declared.fault.MarkFault.{MarkFault}
 use Rattle.partition_check.specs.declared.fault.MarkFault.TheVariants.{Refused}
-use Rattle.delegation.specs.Sequential.{State}
 
 -- values with a total
 abbrev pub state_of : {C R : Type 0} → List C → R → State C R
@@ -24,7 +24,7 @@ IsUnchanged (Err (Refused refusal)) marks new_marks values new_values =
 IsUnchanged _ marks new_marks values new_values = Unit {0}
 
 -- what holds between calls, as long as memory was found
-pub record IsKept {C : Type 0} (values : List C) (marks : Marked) (logs : List (List Run))
+pub record IsConsistent {C : Type 0} (values : List C) (marks : Marked) (logs : List (List Run))
     (has_failed : Bool) : Type 0 where
   pub marked : has_failed ≡ false → length values ≡ length marks.objects
   pub one_log : length logs ≡ 1

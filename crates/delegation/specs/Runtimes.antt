@@ -3,12 +3,12 @@ use Rattle.std.specs.Prelude.{◌≡◌, ℕ, zero, suc, Bool, false, Some, List
 use Rattle.std.specs.List.{range_with_len}
 use Rattle.ss_base.specs.declared.ids.Run.{Run}
 use Rattle.execution_definitions.specs.Shapes.{Shape}
+use Rattle.execution_definitions.specs.declared.call.Call.{Call}
 use Rattle.execution_definitions.specs.Runs.{sent}
+use Rattle.execution_definitions.specs.Meanings.{Meaning, shapes_of}
+use Rattle.execution_definitions.specs.Sequential.{State, sequential_state}
 use Rattle.partition_check.specs.Marked.{Marked}
 use Rattle.partition_check.specs.Represents.{Represents}
-use Rattle.delegation.specs.declared.call.Call.{Call}
-use Rattle.delegation.specs.Meanings.{Meaning, shapes_of}
-use Rattle.delegation.specs.Sequential.{State, sequential_state}
 
 -- a runtime, as its callers know it
 pub record RuntimeView (C R : Type 0) : Type 0 where
@@ -52,7 +52,7 @@ pub record HasDone (given logs : List (List Run)) (is_open : Bool) : Type 0 wher
 
 module _ {C O R : Type 0} (m : Meaning C O R) where
   -- the runtime is as these calls leave it
-  pub record IsAfter (runtime : RuntimeView C R) (calls : List (Call C O R)) : Type 0 where
+  pub record IsAfter (runtime : RuntimeView C R) (calls : List (Call C O)) : Type 0 where
     pub state : runtime.state ≡ sequential_state m calls
     pub marks : Represents runtime.marks (shapes_of m calls)
     pub sent : runtime.sent ≡ sent_to_lanes (shapes_of m calls) runtime.delegates

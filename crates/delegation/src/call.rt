@@ -1,83 +1,42 @@
-// The calls of a program, and what they are answered.
-
+// The calls of a program on a class's values, and why one isn't done.
 ghost use Rattle.std.specs.Prelude.{◌≡◌};
 ghost use Rattle.delegation.specs.declared.call.Fault.TheVariants as fault;
 
 use class_laws::Class;
-use execution_definitions::{By, Refusal};
-use ss_base::{CallNo, ObjectId, OutOfMemory};
+use execution_definitions::Refusal;
+use ss_base::OutOfMemory;
+use thiserror::Error;
 
-/// A call of a program, with its values.
-#[derive(Drop)]
-pub enum Call<C: Class> {
-    /// `Delegation::make`.
-    Make {
-        value: C,
-        by: By,
-    },
-    /// `Delegation::make_fixed`.
-    MakeFixed {
-        value: C,
-    },
-    /// `Delegation::begin`.
-    Begin,
-    /// `Delegation::delegate`.
-    Delegate {
-        object: ObjectId,
-        op: C::Op,
-        reading: Option<ObjectId>,
-    },
-    /// `Delegation::call`.
-    Write {
-        object: ObjectId,
-        op: C::Op,
-    },
-    /// `Delegation::get`.
-    Get {
-        object: ObjectId,
-    },
-    /// `Delegation::end`.
-    End,
-    /// `Delegation::total`.
-    Total,
-}
+/// A call of a program, with its values. Each is named as its method of `Delegation`, but for
+/// `Write`, which is `Delegation::call`.
+pub type Call<C> = execution_definitions::Call<C, <C as Class>::Op>;
 
 /// What an accepted call is answered.
-#[derive(Drop)]
-pub enum Reply<C: Class> {
-    /// The number of the object that was made.
-    Made(ObjectId),
-    /// The number of the delegated call.
-    Sent(CallNo),
-    /// An object's value.
-    Value(C),
-    /// The total.
-    Total(C::Red),
-    /// Nothing but that the call is done.
-    Done,
-}
+pub type Reply<C> = execution_definitions::Reply<C, <C as Class>::Red>;
 
 /// Why a call of a runtime isn't done.
-#[derive(Clone, Copy, Debug, PartialEq, Eq)]
+#[derive(Clone, Copy, Debug, PartialEq, Eq, Error)]
 pub enum Fault {
     /// The partition rule refuses the call, and nothing changed.
+    #[error(transparent)]
     Refused(Refusal),
     /// There was no memory. From then on the runtime answers every call so.
+    #[error("out of memory")]
     OutOfMemory,
 }
 
 impl From<Refusal> for Fault {
-    fn from(refusal: Refusal) -> Fault
-        ensures { result ≡ fault.Refused refusal }
-    {
+    ghost from_gives = { λ refusal result. result ≡ fault.Refused refusal };
+
+    fn from(refusal: Refusal) -> Fault {
         Fault::Refused(refusal)
     }
 }
 
 impl From<OutOfMemory> for Fault {
-    fn from(_: OutOfMemory) -> Fault
-        ensures { result ≡ fault.OutOfMemory }
-    {
+    ghost from_gives = { λ none result. result ≡ fault.OutOfMemory };
+
+    fn from(_: OutOfMemory) -> Fault {
         Fault::OutOfMemory
     }
 }

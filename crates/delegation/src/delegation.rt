@@ -2,16 +2,15 @@
 ghost use Rattle.std.specs.Prelude.{◌≡◌, Option, Some, false, ⊤, IfOk, OnOk, slice_get};
 ghost use Rattle.std.specs.Borrow.{sem, follows_so};
 ghost use mathlib.Core.Option.{none};
-ghost use Rattle.delegation.specs.Meanings.{meaning};
-ghost use Rattle.delegation.specs.Answers.{Answered, Follows};
-ghost use Rattle.delegation.specs.declared.call.Call.TheVariants as call;
-ghost use Rattle.delegation.specs.declared.call.Reply.TheVariants as reply;
+ghost use Rattle.execution_definitions.specs.declared.call.Call.TheVariants as call;
+ghost use Rattle.execution_definitions.specs.declared.call.Reply.TheVariants as reply;
+ghost use Rattle.delegation.specs.Answers.{Answered, AnswersEachList, fault_in};
 
 use crate::call::Fault;
-use crate::job::{Launched, StartBy, launch, run_all};
 use crate::runtime::{Finished, Runtime};
 use class_laws::Class;
 use execution_definitions::By;
+use jobs::{Errand, Launched, StartBy, launch, run_all};
 use ss_base::{CallNo, LaneLog, ObjectId, OutOfMemory};
 use std::alloc::AllocError;
 use std::sync::Wait;
@@ -21,43 +20,47 @@ use std::thread::Threads;
 ///
 /// A runtime is seen as the values and the total that the program would have without delegates,
 /// with what the partition rule knows of its calls, and the runs sent to each lane and done there.
-/// Each call has two clauses:
+/// Each call has three clauses:
 ///
 /// - `answered`: Ok comes only of a call that the marks allow, gives the program's own reply, and
 ///   changes what is seen as the program does. A refusal comes only of a call that the marks refuse
 ///   so, and changes nothing. After a want of memory every call but `runs` answers so.
 /// - `follows`: for every list of calls that the runtime is after, a refusal is exactly that of the
 ///   partition rule, and after Ok the runtime is after the list with this call at its end.
+/// - `moves`: what this runtime says of itself beyond that. Most say nothing.
 ///
 /// A runtime has all of these from its hooks: its `impl Delegation` is empty.
 pub trait Delegation<C: Class>: Runtime<C> {
     /// Makes an object with this value, whose operations are mapped to sets as `by` says, and gives
     /// its number. It is refused where there are too many objects or calls.
     final fn make(&mut self, value: C, by: By) -> Result<ObjectId, Fault>
-        ensures answered { Answered (meaning C.step C.own C.Red.unit_value C.Red.join_of)
-            reply.Made (Self.seen self.old) (Self.seen self.new) (call.Make value by) result }
-        ensures follows { Follows (meaning C.step C.own C.Red.unit_value C.Red.join_of)
-            (Self.seen self.old) (Self.seen self.new) (call.Make value by) result }
+        ensures answered { Answered C.meaning reply.Made (Self.seen self.old) (Self.seen self.new)
+            (call.Make value by) result }
+        ensures follows { AnswersEachList C.meaning (Self.seen self.old) (Self.seen self.new)
+            (call.Make value by) result }
+        ensures moves { Self.moves self.old self.new (call.Make value by) (fault_in result) }
     {
         self.do_make(value, by)
     }
 
     /// Makes an object that is only read, and gives its number. It is refused as `make` is.
     final fn make_fixed(&mut self, value: C) -> Result<ObjectId, Fault>
-        ensures answered { Answered (meaning C.step C.own C.Red.unit_value C.Red.join_of)
-            reply.Made (Self.seen self.old) (Self.seen self.new) (call.MakeFixed value) result }
-        ensures follows { Follows (meaning C.step C.own C.Red.unit_value C.Red.join_of)
-            (Self.seen self.old) (Self.seen self.new) (call.MakeFixed value) result }
+        ensures answered { Answered C.meaning reply.Made (Self.seen self.old) (Self.seen self.new)
+            (call.MakeFixed value) result }
+        ensures follows { AnswersEachList C.meaning (Self.seen self.old) (Self.seen self.new)
+            (call.MakeFixed value) result }
+        ensures moves { Self.moves self.old self.new (call.MakeFixed value) (fault_in result) }
     {
         self.do_make_fixed(value)
     }
 
     /// Begins an epoch of isolation, in which operations can be delegated.
     final fn begin(&mut self) -> Result<(), Fault>
-        ensures answered { Answered (meaning C.step C.own C.Red.unit_value C.Red.join_of)
-            (λ _. reply.Done) (Self.seen self.old) (Self.seen self.new) call.Begin result }
-        ensures follows { Follows (meaning C.step C.own C.Red.unit_value C.Red.join_of)
+        ensures answered { Answered C.meaning (λ _. reply.Done)
             (Self.seen self.old) (Self.seen self.new) call.Begin result }
+        ensures follows { AnswersEachList C.meaning (Self.seen self.old) (Self.seen self.new)
+            call.Begin result }
+        ensures moves { Self.moves self.old self.new call.Begin (fault_in result) }
     {
         self.do_begin()
     }
@@ -72,14 +75,15 @@ pub trait Delegation<C: Class>: Runtime<C> {
         op: C::Op,
         reading: Option<ObjectId>,
     ) -> Result<CallNo, Fault>
-        ensures answered { Answered (meaning C.step C.own C.Red.unit_value C.Red.join_of)
-            reply.Sent (Self.seen self.old) (Self.seen self.new)
+        ensures answered { Answered C.meaning reply.Sent (Self.seen self.old) (Self.seen self.new)
             (call.Delegate o op reading) result }
-        ensures follows { Follows (meaning C.step C.own C.Red.unit_value C.Red.join_of)
-            (Self.seen self.old) (Self.seen self.new) (call.Delegate o op reading) result }
+        ensures follows { AnswersEachList C.meaning (Self.seen self.old) (Self.seen self.new)
+            (call.Delegate o op reading) result }
+        ensures moves { Self.moves self.old self.new
+            (call.Delegate o op reading) (fault_in result) }
     {
         let starter = StartBy {
-            closure: |task: Self::Task| -> Launched<Self::Task> { launch(rt, task) },
+            closure: |errand: Errand<Self::Task>| -> Launched<Self::Task> { launch(rt, errand) },
         };
         self.do_delegate(rt, &starter, o, op, reading)
     }
@@ -91,10 +95,11 @@ pub trait Delegation<C: Class>: Runtime<C> {
         o: ObjectId,
         op: C::Op,
     ) -> Result<(), Fault>
-        ensures answered { Answered (meaning C.step C.own C.Red.unit_value C.Red.join_of)
-            (λ _. reply.Done) (Self.seen self.old) (Self.seen self.new) (call.Write o op) result }
-        ensures follows { Follows (meaning C.step C.own C.Red.unit_value C.Red.join_of)
+        ensures answered { Answered C.meaning (λ _. reply.Done)
             (Self.seen self.old) (Self.seen self.new) (call.Write o op) result }
+        ensures follows { AnswersEachList C.meaning (Self.seen self.old) (Self.seen self.new)
+            (call.Write o op) result }
+        ensures moves { Self.moves self.old self.new (call.Write o op) (fault_in result) }
     {
         self.do_call(rt, o, op)
     }
@@ -103,11 +108,10 @@ pub trait Delegation<C: Class>: Runtime<C> {
     final fn get<R: Threads + Wait + Copy>(&mut self, rt: &R, o: ObjectId) -> Result<&C, Fault>
         // What is seen once the value isn't lent any more.
         ensures* after { sem 𝓛 (follows_so Self.row Self.row self.entry.ghost_name none
-            (λ _ _. ⊤) (λ new. Answered (meaning C.step C.own C.Red.unit_value C.Red.join_of)
-            (λ value. reply.Value value.now) (Self.seen self.old) (Self.seen new)
-            (call.Get o) result
-            × Follows (meaning C.step C.own C.Red.unit_value C.Red.join_of)
-            (Self.seen self.old) (Self.seen new) (call.Get o) result)) }
+            (λ _ _. ⊤) (λ new. Answered C.meaning (λ value. reply.Value value.now)
+            (Self.seen self.old) (Self.seen new) (call.Get o) result
+            × AnswersEachList C.meaning (Self.seen self.old) (Self.seen new) (call.Get o) result
+            × Self.moves self.old new (call.Get o) (fault_in result))) }
 
         ensures value { IfOk result (λ value.
             slice_get (Self.seen self.old).state.values o.0 ≡ Some value.now) }
@@ -120,10 +124,11 @@ pub trait Delegation<C: Class>: Runtime<C> {
         &mut self,
         rt: &R,
     ) -> Result<(), Fault>
-        ensures answered { Answered (meaning C.step C.own C.Red.unit_value C.Red.join_of)
-            (λ _. reply.Done) (Self.seen self.old) (Self.seen self.new) call.End result }
-        ensures follows { Follows (meaning C.step C.own C.Red.unit_value C.Red.join_of)
+        ensures answered { Answered C.meaning (λ _. reply.Done)
             (Self.seen self.old) (Self.seen self.new) call.End result }
+        ensures follows { AnswersEachList C.meaning (Self.seen self.old) (Self.seen self.new)
+            call.End result }
+        ensures moves { Self.moves self.old self.new call.End (fault_in result) }
     {
         let starter = StartBy {
             closure: |tasks: Vec<Self::Task>| -> Result<Vec<Self::Task>, AllocError> {
@@ -137,11 +142,10 @@ pub trait Delegation<C: Class>: Runtime<C> {
     final fn total(&mut self) -> Result<&C::Red, Fault>
         // What is seen once the total isn't lent any more.
         ensures* after { sem 𝓛 (follows_so Self.row Self.row self.entry.ghost_name none
-            (λ _ _. ⊤) (λ new. Answered (meaning C.step C.own C.Red.unit_value C.Red.join_of)
-            (λ total. reply.Total total.now) (Self.seen self.old) (Self.seen new)
-            call.Total result
-            × Follows (meaning C.step C.own C.Red.unit_value C.Red.join_of)
-            (Self.seen self.old) (Self.seen new) call.Total result)) }
+            (λ _ _. ⊤) (λ new. Answered C.meaning (λ total. reply.Total total.now)
+            (Self.seen self.old) (Self.seen new) call.Total result
+            × AnswersEachList C.meaning (Self.seen self.old) (Self.seen new) call.Total result
+            × Self.moves self.old new call.Total (fault_in result))) }
 
         ensures total { IfOk result (λ total. total.now ≡ (Self.seen self.old).state.total) }
     {

@@ -10,27 +10,24 @@
 //! Contracts see a runtime as the values and the total that the program has without delegates, with
 //! what the partition rule knows of the calls so far, and with the runs sent to each lane and done
 //! there. Each call says what its answer means of one call, and of every list of calls that the
-//! runtime is after. [`run_calls`] makes a whole list of calls. [`Plain`] is the runtime without
-//! delegates.
+//! runtime is after. [`make_call`] makes a call that is a value, and [`run_calls`] a whole list of
+//! them. [`Plain`] is the runtime without delegates.
 //!
 //! **Who writes a runtime** implements [`Runtime`]: a hook behind each call, and what is seen of the
 //! runtime. A hook owes what its answer says of that one call. It may look at marks through the
 //! calls of `Marks` alone, and has to answer as they judge. The theorem on lists of calls is proved
 //! here once, at the calls of `Delegation`, whose impl stays empty. Threads are started through the
-//! [`Starter`] that a hook is handed, and do a [`Job`], which comes back done: its `gives` is all
-//! that is known of what a thread did, so it says what the job's value became.
+//! `Starter` of the crate `jobs` that a hook is handed.
 #![tactic(auto)]
 
 mod call;
 mod delegation;
-mod job;
 mod plain;
 mod program;
 mod runtime;
 
 pub use call::{Call, Fault, Reply};
 pub use delegation::Delegation;
-pub use job::{Doing, Job, Launched, RunningJob, StartBy, Starter, launch, run_all};
 pub use plain::{Idle, Plain};
-pub use program::{Ran, run_calls};
+pub use program::{Ran, make_call, run_calls};
 pub use runtime::{Finished, Runtime};

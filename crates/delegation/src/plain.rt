@@ -2,22 +2,21 @@
 mod steps;
 
 ghost use Rattle.std.specs.Prelude.{IfOk};
-ghost use Rattle.delegation.specs.Meanings.{meaning};
 ghost use Rattle.delegation.specs.Runtimes.{IsNew};
-ghost use Rattle.delegation.specs.PlainParts.{IsKept};
+ghost use Rattle.delegation.specs.PlainParts.{IsConsistent};
 
 use crate::call::Fault;
 use crate::delegation::Delegation;
-use crate::job::{Job, Launched, Starter};
 use crate::runtime::{Finished, Runtime};
 use class_laws::{Class, Reducible};
 use execution_definitions::By;
+use jobs::{Errand, Job, Launched, Starter};
 use partition_check::{MarkFault, Marks};
 use ss_base::{CallNo, LaneLog, ObjectId, OutOfMemory, Run};
 use std::alloc::{AllocError, Global};
 use std::sync::Wait;
 use std::thread::Threads;
-use steps::{add, log_run, operate, value_of};
+use steps::{add, check_usable, log_run, operate, value_of};
 
 /// The runtime without delegates: every operation runs at its call, and one log tells of all.
 #[derive(Drop)]
@@ -29,7 +28,7 @@ pub struct Plain<C: Class> {
     // One log, that of lane 0.
     logs: Vec<LaneLog>,
     has_failed: bool,
-    ghost kept: { IsKept values.items marks logs.items has_failed },
+    ghost kept: { IsConsistent values.items marks logs.items has_failed },
 }
 
 /// It starts no thread, and so it has nothing for one to do.
@@ -49,8 +48,7 @@ impl<C: Class> Plain<C> {
 
     /// A runtime before its first call.
     pub fn new(alloc: Global) -> Result<Plain<C>, OutOfMemory>
-        ensures { IfOk result (λ plain. IsNew (meaning C.step C.own C.Red.unit_value
-            C.Red.join_of) (plain_view plain) 0) }
+        ensures { IfOk result (λ plain. IsNew C.meaning (plain_view plain) 0) }
     {
         let mut logs = Vec::with_capacity(alloc, 1)?;
         logs.push(LaneLog {
@@ -68,16 +66,16 @@ impl<C: Class> Plain<C> {
 }
 
 impl<C: Class> Runtime<C> for Plain<C> {
-    ghost use Rattle.delegation.specs.Plains.{plain_view};
+    ghost use Rattle.delegation.specs.Plains.{plain_view, plain_moves};
 
     type Task = Idle;
 
     ghost seen = { plain_view };
 
+    ghost moves = { plain_moves };
+
     fn do_make(&mut self, value: C, by: By) -> Result<ObjectId, Fault> {
-        if self.has_failed {
-            return Err(Fault::OutOfMemory);
-        }
+        check_usable(self.has_failed)?;
         match add(&mut self.values, &mut self.marks, value, Some(by)) {
             Ok(object) => Ok(object),
             Err(MarkFault::Refused(refusal)) => Err(Fault::Refused(refusal)),
@@ -89,9 +87,7 @@ impl<C: Class> Runtime<C> for Plain<C> {
     }
 
     fn do_make_fixed(&mut self, value: C) -> Result<ObjectId, Fault> {
-        if self.has_failed {
-            return Err(Fault::OutOfMemory);
-        }
+        check_usable(self.has_failed)?;
         match add(&mut self.values, &mut self.marks, value, None) {
             Ok(object) => Ok(object),
             Err(MarkFault::Refused(refusal)) => Err(Fault::Refused(refusal)),
@@ -103,16 +99,11 @@ impl<C: Class> Runtime<C> for Plain<C> {
     }
 
     fn do_begin(&mut self) -> Result<(), Fault> {
-        if self.has_failed {
-            return Err(Fault::OutOfMemory);
-        }
-        match self.marks.begin() {
-            Ok(()) => Ok(()),
-            Err(refusal) => Err(Fault::Refused(refusal)),
-        }
+        check_usable(self.has_failed)?;
+        Ok(self.marks.begin()?)
     }
 
-    fn do_delegate<R: Threads + Wait + Copy, S: Starter<Idle, Launched<Idle>>>(
+    fn do_delegate<R: Threads + Wait + Copy, S: Starter<Errand<Idle>, Launched<Idle>>>(
         &mut self,
         _rt: &R,
         _starter: &S,
@@ -120,16 +111,11 @@ impl<C: Class> Runtime<C> for Plain<C> {
         op: C::Op,
         reading: Option<ObjectId>,
     ) -> Result<CallNo, Fault> {
-        if self.has_failed {
-            return Err(Fault::OutOfMemory);
-        }
+        check_usable(self.has_failed)?;
         // Of a runtime that failed nothing is said, so the call is marked before it is run.
         let call = CallNo(self.marks.calls());
         let epoch = self.marks.epoch();
-        let set = match self.marks.delegate(o, C::own_set(&op), reading) {
-            Ok(set) => set,
-            Err(refusal) => return Err(Fault::Refused(refusal)),
-        };
+        let set = self.marks.delegate(o, C::own_set(&op), reading)?;
         let run = Run {
             call,
             epoch,
@@ -160,28 +146,20 @@ impl<C: Class> Runtime<C> for Plain<C> {
         o: ObjectId,
         op: C::Op,
     ) -> Result<(), Fault> {
-        if self.has_failed {
-            return Err(Fault::OutOfMemory);
-        }
-        if let Err(refusal) = self.marks.check_write(o) {
-            return Err(Fault::Refused(refusal));
-        }
+        check_usable(self.has_failed)?;
+        self.marks.check_write(o)?;
         let Ok(()) = operate(self.alloc, &mut self.values, &mut self.total, o, &op, None) else {
             self.has_failed = true;
             return Err(Fault::OutOfMemory);
         };
-        self.marks.note_call();
+        self.marks.note_call(Some(o));
         Ok(())
     }
 
     fn do_get<R: Threads + Wait + Copy>(&mut self, _rt: &R, o: ObjectId) -> Result<&C, Fault> {
-        if self.has_failed {
-            return Err(Fault::OutOfMemory);
-        }
-        if let Err(refusal) = self.marks.check_get(o) {
-            return Err(Fault::Refused(refusal));
-        }
-        self.marks.note_call();
+        check_usable(self.has_failed)?;
+        self.marks.check_get(o)?;
+        self.marks.note_call(Some(o));
         Ok(value_of(&self.values, o))
     }
 
@@ -190,23 +168,14 @@ impl<C: Class> Runtime<C> for Plain<C> {
         _rt: &R,
         _starter: &S,
     ) -> Result<(), Fault> {
-        if self.has_failed {
-            return Err(Fault::OutOfMemory);
-        }
-        match self.marks.end() {
-            Ok(()) => Ok(()),
-            Err(refusal) => Err(Fault::Refused(refusal)),
-        }
+        check_usable(self.has_failed)?;
+        Ok(self.marks.end()?)
     }
 
     fn do_total(&mut self) -> Result<&C::Red, Fault> {
-        if self.has_failed {
-            return Err(Fault::OutOfMemory);
-        }
-        if let Err(refusal) = self.marks.check_total() {
-            return Err(Fault::Refused(refusal));
-        }
-        self.marks.note_call();
+        check_usable(self.has_failed)?;
+        self.marks.check_total()?;
+        self.marks.note_call(None);
         Ok(&self.total)
     }
 
@@ -219,15 +188,14 @@ impl<C: Class> Runtime<C> for Plain<C> {
         _rt: &R,
         _starter: &S,
     ) -> Result<Finished<C>, OutOfMemory> {
-        if self.has_failed {
-            return Err(OutOfMemory);
-        }
         let Plain {
             values,
             total,
             logs,
+            has_failed,
             ..
         } = self;
+        check_usable(has_failed)?;
         Ok(Finished {
             values,
             total,

@@ -1,10 +1,9 @@
 // A whole list of calls, made one after the other.
 ghost use Rattle.std.specs.Prelude.{◌≡◌, Some, [], IfOk};
-ghost use Rattle.delegation.specs.Meanings.{meaning};
-ghost use Rattle.delegation.specs.Sequential.{reply_of};
 ghost use Rattle.delegation.specs.Runtimes.{IsAfter};
-ghost use Rattle.delegation.specs.Answers.{Follows};
+ghost use Rattle.delegation.specs.Answers.{Makes, AnswersEachList, fault_in};
 ghost use Rattle.delegation.specs.Programs.{HasRun};
+ghost use Rattle.delegation.specs.declared.call.Fault.TheVariants as fault;
 
 use crate::call::{Call, Fault, Reply};
 use crate::delegation::Delegation;
@@ -24,28 +23,24 @@ pub struct Ran<C: Class> {
     pub stopped: Option<Refusal>,
 }
 
-// Makes one call.
-fn make_call<C: Class, D: Delegation<C>, R: Threads + Wait + Copy + Send + Sync + 'static>(
+/// Makes a call that is a value.
+///
+/// The answer says what the same call of `Delegation` says, but that a want of memory may be that of
+/// the reply's copy alone: then the runtime took the call.
+pub fn make_call<C: Class, D: Delegation<C>, R: Threads + Wait + Copy + Send + Sync + 'static>(
     rt: &R,
     alloc: Global,
     d: &mut D,
     call: Call<C>,
 ) -> Result<Reply<C>, Fault>
-    ensures follows { Follows (meaning C.step C.own C.Red.unit_value C.Red.join_of)
-        (D.seen d.old) (D.seen d.new) call result }
-    ensures reply { IfOk result (λ reply. Some reply
-        ≡ reply_of (meaning C.step C.own C.Red.unit_value C.Red.join_of)
-        (D.seen d.old).state (D.seen d.old).marks.calls call) }
+    ensures made { Makes C.meaning (D.seen d.old) (D.seen d.new) call result }
+    ensures follows { AnswersEachList C.meaning (D.seen d.old) (D.seen d.new) call result }
+    ensures moves { ¬ (fault_in result ≡ Some fault.OutOfMemory) →
+        D.moves d.old d.new call (fault_in result) }
 {
     match call {
-        Call::Make { value, by } => {
-            let object = d.make(value, by)?;
-            Ok(Reply::Made(object))
-        }
-        Call::MakeFixed { value } => {
-            let object = d.make_fixed(value)?;
-            Ok(Reply::Made(object))
-        }
+        Call::Make { value, by } => Ok(Reply::Made(d.make(value, by)?)),
+        Call::MakeFixed { value } => Ok(Reply::Made(d.make_fixed(value)?)),
         Call::Begin => {
             d.begin()?;
             Ok(Reply::Done)
@@ -54,32 +49,17 @@ fn make_call<C: Class, D: Delegation<C>, R: Threads + Wait + Copy + Send + Sync 
             object,
             op,
             reading,
-        } => {
-            let number = d.delegate(rt, object, op, reading)?;
-            Ok(Reply::Sent(number))
-        }
+        } => Ok(Reply::Sent(d.delegate(rt, object, op, reading)?)),
         Call::Write { object, op } => {
             d.call(rt, object, op)?;
             Ok(Reply::Done)
         }
-        Call::Get { object } => {
-            let value = d.get(rt, object)?;
-            match value.copy(alloc) {
-                Ok(copy) => Ok(Reply::Value(copy)),
-                Err(OutOfMemory) => Err(Fault::OutOfMemory),
-            }
-        }
+        Call::Get { object } => Ok(Reply::Value(d.get(rt, object)?.copy(alloc)?)),
         Call::End => {
             d.end(rt)?;
             Ok(Reply::Done)
         }
-        Call::Total => {
-            let total = d.total()?;
-            match total.copy() {
-                Ok(copy) => Ok(Reply::Total(copy)),
-                Err(OutOfMemory) => Err(Fault::OutOfMemory),
-            }
-        }
+        Call::Total => Ok(Reply::Total(d.total()?.copy()?)),
     }
 }
 
@@ -93,9 +73,9 @@ pub fn run_calls<C: Class, D: Delegation<C>, R: Threads + Wait + Copy + Send + S
     d: &mut D,
     calls: Vec<Call<C>>,
 ) -> Result<Ran<C>, OutOfMemory>
-    requires { IsAfter (meaning C.step C.own C.Red.unit_value C.Red.join_of) (D.seen d.old) [] }
-    ensures { IfOk result (λ ran. HasRun (meaning C.step C.own C.Red.unit_value C.Red.join_of)
-        (D.seen d.new) calls.items ran.replies.items ran.stopped) }
+    requires { IsAfter C.meaning (D.seen d.old) [] }
+    ensures { IfOk result (λ ran. HasRun C.meaning (D.seen d.new) calls.items ran.replies.items
+        ran.stopped) }
 {
     let mut replies = Vec::with_capacity(alloc, calls.len())?;
     for call in calls {

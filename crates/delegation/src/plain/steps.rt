@@ -1,11 +1,10 @@
 // Steps on what the undelegated runtime keeps. A method of an impl may call these: their bounds
 // have no `Send`.
-ghost use Rattle.std.specs.Prelude.{◌≡◌, ◌<◌, [], ◌∷◌, ◌++◌, Some, OnOk, IfOk, length, slice_get};
+ghost use Rattle.std.specs.Prelude.{◌≡◌, ◌<◌, [], ◌∷◌, ◌++◌, true, false, Some, OnOk, OnErr, IfOk, length, slice_get};
+ghost use Rattle.execution_definitions.specs.Sequential.{operated, value_read};
 ghost use Rattle.partition_check.specs.Answers.{AnswersMake, making};
 ghost use Rattle.partition_check.specs.Judged.{judged};
 ghost use Rattle.partition_check.specs.MarkedAfter.{marked_after};
-ghost use Rattle.delegation.specs.Meanings.{meaning};
-ghost use Rattle.delegation.specs.Sequential.{operated, value_read};
 ghost use Rattle.delegation.specs.Answers.{with_run};
 ghost use Rattle.delegation.specs.PlainParts.{state_of, IsReadable, IsUnchanged};
 
@@ -14,6 +13,14 @@ use execution_definitions::By;
 use partition_check::{MarkFault, Marks};
 use ss_base::{LaneLog, ObjectId, OutOfMemory, Run};
 use std::alloc::Global;
+
+/// That a runtime may be used: every call of one that has failed answers so.
+pub fn check_usable(has_failed: bool) -> Result<(), OutOfMemory>
+    ensures ok { OnOk result (has_failed ≡ false) }
+    ensures err { OnErr result (has_failed ≡ true) }
+{
+    if has_failed { Err(OutOfMemory) } else { Ok(()) }
+}
 
 /// Makes an object with this value; a read-only one where no serializer is asked for.
 pub fn add<C: Drop>(
@@ -55,8 +62,7 @@ pub fn operate<C: LocalClass>(
 ) -> Result<(), OutOfMemory>
     requires known { o.0 < length values.old.items }
     requires readable { IsReadable (length values.old.items) o.0 reading }
-    ensures state { OnOk result (state_of values.new.items total.new ≡ operated
-        (meaning C.local_step C.local_own C.LocalRed.local_unit_value C.LocalRed.local_join_of)
+    ensures state { OnOk result (state_of values.new.items total.new ≡ operated C.local_meaning
         (state_of values.old.items total.old) o.0 op.now (value_read values.old.items reading)) }
     ensures count { length values.new.items ≡ length values.old.items }
 {
@@ -74,8 +80,7 @@ fn operate_among<C: LocalClass>(
 ) -> Result<(), OutOfMemory>
     requires known { o.0 < length values.old }
     requires readable { IsReadable (length values.old) o.0 reading }
-    ensures state { OnOk result (state_of values.new total.new ≡ operated
-        (meaning C.local_step C.local_own C.LocalRed.local_unit_value C.LocalRed.local_join_of)
+    ensures state { OnOk result (state_of values.new total.new ≡ operated C.local_meaning
         (state_of values.old total.old) o.0 op.now (value_read values.old reading)) }
     ensures length { length values.new ≡ length values.old }
 {

@@ -14,7 +14,7 @@ loop-call-preserved g c =
     let pushed : c.push.new.self.items ≡ c.loop-call.replies.items ++ c.in-Ok.reply ∷ [] =
     c.in_ok-push-in-Ok.ensures.items in
     let steps = c.in-Some.ensures.steps in (
-      rw pushed (goes _ _ _ _ _ _ way c.in-Ok.reply accepted.1 c.in-Ok.ensures.reply),
+      rw pushed (goes _ _ _ _ _ _ way c.in-Ok.reply accepted.1 c.in-Ok.ensures.made.1),
       rw (c.loop-call.invariant.1, steps.0, append_assoc) refl,
     )
 

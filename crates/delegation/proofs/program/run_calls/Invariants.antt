@@ -1,12 +1,9 @@
 use Rattle.std.proofs.Common.{◌≡◌, ◌++◌}
-use Rattle.delegation.specs.Meanings.{meaning}
 use Rattle.delegation.proofs.ProgramLemmas.{OnWay}
 use Rattle.delegation.proofs.program.run_calls.Given as goal
 
 -- the calls made so far and those that are left are all calls
 abbrev pub invariant-loop-call : goal.invariant-loop-call
 invariant-loop-call g l =
-    OnWay
-    (meaning g.C.Class.step g.C.Class.own g.C.Red.Reducible.unit_value g.C.Red.Reducible.join_of)
-    (g.D.Runtime.seen l.d) l.yielded l.replies.items
+    OnWay g.C.Class.meaning (g.D.Runtime.seen l.d) l.yielded l.replies.items
     × (l.fn.calls.items ≡ l.yielded ++ l.call-iterator.rest.items)

@@ -1,6 +1,6 @@
-use Rattle.delegation.specs.declared.call.Reply.TheVariants as reply
+use Rattle.execution_definitions.specs.declared.call.Reply.TheVariants as reply
 use Rattle.delegation.proofs.FollowLemmas.{follows}
 use Rattle.delegation.proofs.delegation.Delegation.make_fixed.Goals as goal
 
 pub returns-clause-follows : goal.returns-clause-follows
-returns-clause-follows g c = follows _ reply.Made _ _ _ _ c.do_make_fixed.ensures
+returns-clause-follows g c = follows _ reply.Made _ _ _ _ c.do_make_fixed.ensures.answered

@@ -1,13 +1,11 @@
 use Rattle.std.proofs.Common.{rules, ◌<◌, length, arith}
 use Rattle.std.proofs.lemmas.Option.{slice_get-get_or}
-use Rattle.delegation.specs.Meanings.{meaning}
 use Rattle.delegation.proofs.OperationLemmas.{operated-back, operated-front, on_ok}
 use Rattle.delegation.proofs.plain.steps.operate_among.Goals as goal
 
 pub returns-then-from-at-clause-state : goal.returns-then-from-at-clause-state
 returns-then-from-at-clause-state g c =
-    let m = meaning g.C.LocalClass.local_step g.C.LocalClass.local_own
-    g.C.LocalRed.LocalReducible.local_unit_value g.C.LocalRed.LocalReducible.local_join_of in
+    let m = g.C.LocalClass.local_meaning in
     let parts = c.split_at_mut-front.result in
     let split = c.split_at_mut-front.ensures in
     let known = c.requires.known in
@@ -25,8 +23,7 @@ returns-then-from-at-clause-state g c =
 
 pub returns-else-from-at-clause-state : goal.returns-else-from-at-clause-state
 returns-else-from-at-clause-state g c =
-    let m = meaning g.C.LocalClass.local_step g.C.LocalClass.local_own
-    g.C.LocalRed.LocalReducible.local_unit_value g.C.LocalRed.LocalReducible.local_join_of in
+    let m = g.C.LocalClass.local_meaning in
     let parts = c.split_at_mut-front-else-from-at.result in
     let split = c.split_at_mut-front-else-from-at.ensures in
     let some : 0 < length parts.1.now = search rules in
