@@ -1,6 +1,7 @@
 // A stream as a sink that counts its faults.
 ghost use Rattle.std.specs.Prelude.{None};
 
+use crate::again::{flush_again, write_again};
 use ss_base::{Failed, Sink};
 use std::io::Write;
 
@@ -23,11 +24,13 @@ impl<W: Write + Drop> Sink for StdSink<W> {
 
     ghost gained = { λ s. None };
 
+    ghost sure = { λ s. 0 };
+
     fn write(&mut self, bytes: &[u8]) -> Result<usize, Failed> {
-        match self.stream.write(bytes) {
+        match write_again(&mut self.stream, bytes) {
             Ok(0) | Err(_) => {}
             Ok(taken) => {
-                if self.stream.flush().is_ok() {
+                if flush_again(&mut self.stream).is_ok() {
                     return Ok(taken);
                 }
             }
