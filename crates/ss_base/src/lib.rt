@@ -4,6 +4,7 @@
 mod asked;
 mod calls;
 mod ids;
+pub mod limits;
 mod mem_shelf;
 mod mem_sink;
 mod outside;

@@ -3,6 +3,7 @@ ghost use Rattle.std.specs.Prelude.{◌≡◌, ◌+◌, ◌≤◌, [], ◌∷◌
 ghost use Rattle.ss_base.specs.Faults.{HasCause, HasNoFault, Rose};
 ghost use Rattle.ss_base.specs.Shelves.{IsHeld, IsSteady, ReadsWhole, PassesLimit};
 ghost use Rattle.ss_base.specs.Sinks.{GainsAll};
+ghost use Rattle.ss_base.specs.declared.limits.TheConstants as limits;
 ghost use Rattle.ss_base.specs.declared.transfer.ReadStop.TheVariants as stop;
 
 use crate::{Failed, Shelf, Sink};
@@ -56,7 +57,7 @@ pub fn read_all<L: Shelf>(
     name: &str,
     limit: usize,
 ) -> Result<Vec<u8>, ReadStop>
-    requires { limit ≤ 8388608 }
+    requires { limit ≤ limits.DOCUMENT_BYTES }
     ensures never_falls { L.faults shelf.old ≤ L.faults shelf.new }
     ensures contents { L.contents shelf.new ≡ L.contents shelf.old }
     ensures asked { L.asked shelf.new ≡ L.asked shelf.old ++ name.now ∷ [] }
