@@ -6,7 +6,7 @@ use Rattle.std.specs.declared.alloc.Global.{Global}
 use Rattle.std.specs.declared.cmp.Ordering.TheVariants.{Less}
 use Rattle.std.specs.BTreeSet.{BTreeSet, UpdatesBy, contains_text}
 use Rattle.std.specs.Cmp.Lexicographic.{slice_cmp}
-use Rattle.std.specs.List.{list_any, AllByRecursion, AllZip}
+use Rattle.std.specs.List.{AllByRecursion, AllZip}
 use Rattle.std.specs.List.Sorted.{IsStrictlySortedBy}
 use Rattle.std.specs.Ordering.{nat_cmp}
 use Rattle.std.specs.Str.{bytes_eq}
@@ -15,6 +15,7 @@ use Rattle.std.proofs.lemmas.Bool.{cases_Bool}
 use Rattle.std.proofs.lemmas.Cmp.{nat_list_eq_equiv}
 use Rattle.std.proofs.lemmas.Map.Steps.{list_any_congr}
 use Rattle.std.proofs.lemmas.Map.Text.{is_eq-slice_cmp, btree_set_updates_text}
+use Rattle.index_definitions.specs.Terms.{has_term}
 
 -- the keys of a set, as texts
 abbrev texts : List (String Global) → List (List ℕ)
@@ -45,14 +46,14 @@ texts-clone same (k ∷ ks) (l ∷ ls) clones =
     ap₂ (λ t ts. t ∷ ts) (same k l clones.0) (texts-clone same ks ls clones.1)
 
 -- a look-up by a text says whether it is one of the texts
-pub list_any-texts :
+pub has_term-texts :
     (q : List ℕ) (s : BTreeSet (String Global))
-    → contains_text s q ≡ list_any (bytes_eq q) (texts s.keys)
-list_any-texts q s = over s.keys
+    → contains_text s q ≡ has_term (texts s.keys) q
+has_term-texts q s = over s.keys
   where
     over :
         (ks : List (String Global))
-        → contains_text (record { keys = ks }) q ≡ list_any (bytes_eq q) (texts ks)
+        → contains_text (record { keys = ks }) q ≡ has_term (texts ks) q
     over [] = refl
     over (k ∷ ks) = ap₂ (λ a b. a || b) (is_eq-slice_cmp q (string_bytes k)) (over ks)
 
@@ -61,27 +62,27 @@ cond-or true b = refl
 cond-or false b = refl
 
 -- after a key with this text was put in
-pub list_any-inserted :
+pub has_term-inserted :
     (old new : BTreeSet (String Global)) (key : String Global) (term : List ℕ)
     → string_bytes key ≡ term → UpdatesBy string_cmp (string_cmp key) old new true → (q : List ℕ)
-    → list_any (bytes_eq q) (texts new.keys)
-    ≡ (bytes_eq q term || list_any (bytes_eq q) (texts old.keys))
-list_any-inserted old new key term is updates q =
-    sym (list_any-texts q new)
+    → has_term (texts new.keys) q
+    ≡ (bytes_eq q term || has_term (texts old.keys) q)
+has_term-inserted old new key term is updates q =
+    sym (has_term-texts q new)
     ∙ btree_set_updates_text (string_bytes key) old new true updates q
     ∙ cond-or (bytes_eq (string_bytes key) q) (contains_text old q)
     ∙ ap₂ (λ a b. a || b)
-    (nat_list_eq_equiv.symm (string_bytes key) q ∙ ap (bytes_eq q) is) (list_any-texts q old)
+    (nat_list_eq_equiv.symm (string_bytes key) q ∙ ap (bytes_eq q) is) (has_term-texts q old)
 
 -- a text that is there adds nothing
-pub list_any-known :
-    (terms : List (List ℕ)) (term : List ℕ) → list_any (bytes_eq term) terms ≡ true → (q : List ℕ)
-    → list_any (bytes_eq q) terms ≡ (bytes_eq q term || list_any (bytes_eq q) terms)
-list_any-known terms term known q =
+pub has_term-known :
+    (terms : List (List ℕ)) (term : List ℕ) → has_term terms term ≡ true → (q : List ℕ)
+    → has_term terms q ≡ (bytes_eq q term || has_term terms q)
+has_term-known terms term known q =
     ⊎_elim
     (λ yes. list_any_congr nat_list_eq_equiv q term terms yes ∙ known
-    ∙ sym (ap (λ b. b || list_any (bytes_eq q) terms) yes))
-    (λ no. sym (ap (λ b. b || list_any (bytes_eq q) terms) no))
+    ∙ sym (ap (λ b. b || has_term terms q) yes))
+    (λ no. sym (ap (λ b. b || has_term terms q) no))
     (cases_Bool (bytes_eq q term))
 
 or-moved : (a b c : Bool) → ((a || b) || c) ≡ (b || (a || c))
@@ -90,26 +91,26 @@ or-moved true false c = refl
 or-moved false b c = refl
 
 -- a term that was left is now among those that are known
-pub list_any-moved :
+pub has_term-moved :
     (q added term : List ℕ) (old new left fewer : List (List ℕ))
     → added ≡ term → left ≡ term ∷ fewer
-    → list_any (bytes_eq q) new ≡ (bytes_eq q added || list_any (bytes_eq q) old)
-    → (list_any (bytes_eq q) new || list_any (bytes_eq q) fewer)
-    ≡ (list_any (bytes_eq q) old || list_any (bytes_eq q) left)
-list_any-moved q added term old new left fewer same taken grown =
-    ap (λ b. b || list_any (bytes_eq q) fewer)
-    (grown ∙ ap (λ t. bytes_eq q t || list_any (bytes_eq q) old) same)
-    ∙ or-moved (bytes_eq q term) (list_any (bytes_eq q) old) (list_any (bytes_eq q) fewer)
-    ∙ ap (λ ts. list_any (bytes_eq q) old || list_any (bytes_eq q) ts) (sym taken)
+    → has_term new q ≡ (bytes_eq q added || has_term old q)
+    → (has_term new q || has_term fewer q)
+    ≡ (has_term old q || has_term left q)
+has_term-moved q added term old new left fewer same taken grown =
+    ap (λ b. b || has_term fewer q)
+    (grown ∙ ap (λ t. bytes_eq q t || has_term old q) same)
+    ∙ or-moved (bytes_eq q term) (has_term old q) (has_term fewer q)
+    ∙ ap (λ ts. has_term old q || has_term ts q) (sym taken)
 
 or-false : (a : Bool) → (a || false) ≡ a
 or-false true = refl
 or-false false = refl
 
 -- where none is left, all are known
-pub list_any-none_left :
+pub has_term-none_left :
     (q : List ℕ) (known left : List (List ℕ)) → left ≡ []
-    → list_any (bytes_eq q) known ≡ (list_any (bytes_eq q) known || list_any (bytes_eq q) left)
-list_any-none_left q known left none =
-    sym (or-false (list_any (bytes_eq q) known))
-    ∙ ap (λ ts. list_any (bytes_eq q) known || list_any (bytes_eq q) ts) (sym none)
+    → has_term known q ≡ (has_term known q || has_term left q)
+has_term-none_left q known left none =
+    sym (or-false (has_term known q))
+    ∙ ap (λ ts. has_term known q || has_term ts q) (sym none)

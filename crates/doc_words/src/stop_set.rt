@@ -1,13 +1,11 @@
 // The terms that an index leaves out.
 ghost use Rattle.std.specs.Prelude.{◌≡◌, ◌≤◌, ℕ, List, [], length, IfOk, OnOk, ◌||◌};
-ghost use Rattle.std.specs.List.{list_any};
 ghost use Rattle.std.specs.List.Sorted.{IsStrictlySortedBy};
 ghost use Rattle.std.specs.Ordering.{nat_cmp};
 ghost use Rattle.std.specs.Cmp.Lexicographic.{slice_cmp};
 ghost use Rattle.std.specs.Str.{bytes_eq};
 ghost use Rattle.index_definitions.specs.Words.{terms_in};
-ghost use Rattle.index_definitions.specs.Postings.{is_stopped};
-ghost use Rattle.index_definitions.specs.Terms.{rising_terms};
+ghost use Rattle.index_definitions.specs.Terms.{has_term, HaveSameTerms, rising_terms};
 
 use crate::{Terms, text_of};
 use ss_base::OutOfMemory;
@@ -52,8 +50,7 @@ impl StopSet {
     pub fn of(alloc: Global, bytes: &[u8]) -> Result<StopSet, OutOfMemory>
         requires { length bytes.now ≤ 8388608 }
         ensures terms { IfOk result (λ set. set ≡ rising_terms (terms_in bytes.now)) }
-        ensures stops { IfOk result (λ set.
-            (term : List ℕ) → list_any (bytes_eq term) set ≡ is_stopped bytes.now term) }
+        ensures stops { IfOk result (λ set. HaveSameTerms set (terms_in bytes.now)) }
     {
         let text = text_of(alloc, bytes)?;
         let mut terms = Terms::new(text.as_str());
@@ -67,7 +64,7 @@ impl StopSet {
 
     /// Whether a term is one of them. It takes no memory.
     pub fn contains(&self, term: &str) -> bool
-        ensures member { result ≡ list_any (bytes_eq term.now) self.now }
+        ensures member { result ≡ has_term self.now term.now }
         ensures rises { IsStrictlySortedBy (slice_cmp nat_cmp) self.now }
     {
         self.terms.contains(term)
@@ -84,8 +81,8 @@ impl StopSet {
 
     // Puts in a term. A key is made for a new term only.
     fn add(&mut self, alloc: Global, term: &str) -> Result<(), OutOfMemory>
-        ensures terms { OnOk result ((q : List ℕ) → list_any (bytes_eq q) self.new
-            ≡ (bytes_eq q term.now || list_any (bytes_eq q) self.old)) }
+        ensures terms { OnOk result ((q : List ℕ) → has_term self.new q
+            ≡ (bytes_eq q term.now || has_term self.old q)) }
         ensures rises { OnOk result (IsStrictlySortedBy (slice_cmp nat_cmp) self.new) }
     {
         if !self.terms.contains(term) {

@@ -1,4 +1,7 @@
+pub mod GreatestLemmas
+pub mod ListsLemmas
 pub mod NumberedLemmas
+pub mod PostingsLemmas
 pub mod TermsLemmas
 pub mod WordsLemmas
 mod WorkedExamples

@@ -1,24 +1,29 @@
--- A strictly rising list that has the same terms is `rising_terms` of them.
+-- Lists with the same terms: they have one list of rising terms, and one longest term.
 --
--- Both are read as finite maps to the one-element type. Two finite maps that find the same at each
--- key are one map, and the keys of a map in order are one list.
-use Rattle.std.proofs.Common.{◌≡◌, ℕ, Bool, true, false, cond, List, [], ◌∷◌, map, Some, None}
-use Rattle.std.proofs.Common.{refl, sym, ap, ◌∙◌, subst, T}
-use Rattle.std.specs.Prelude.{◌&&◌, ◌||◌}
+-- A strictly rising list and `rising_terms` are read as finite maps to the one-element type. Two
+-- finite maps that find the same at each key are one map, and the keys of a map in order are one
+-- list.
+use Rattle.std.proofs.Common.{◌≡◌, ℕ, ◌≤◌, Bool, true, false, cond, List, [], ◌∷◌, map, Some, None}
+use Rattle.std.proofs.Common.{refl, sym, ap, ◌∙◌, subst, T, length, chars, get_or, arith, max, ◌++◌}
+use Rattle.std.specs.Prelude.{◌&&◌, ◌||◌, is_some}
 use Rattle.std.specs.declared.cmp.Ordering.{Ordering}
-use Rattle.std.specs.declared.cmp.Ordering.TheVariants.{Less}
-use Rattle.std.specs.List.{list_any, AllByRecursion}
+use Rattle.std.specs.declared.cmp.Ordering.TheVariants.{Less, Equal, Greater}
+use Rattle.std.specs.List.{AllByRecursion}
 use Rattle.std.specs.List.Sorted.{IsStrictlySortedBy}
 use Rattle.std.specs.Ordering.{nat_cmp, is_lt}
 use Rattle.std.specs.Cmp.Lexicographic.{slice_cmp, nat_list_cmp_total}
-use Rattle.std.specs.FinMap.{keys, find, is_sorted, from_sorted, from_entries, same_map}
+use Rattle.std.specs.FinMap.{keys, entries, find, is_sorted, from_sorted, from_entries, same_map}
+use Rattle.std.specs.FinMap.{entries_sorted, get-entries}
 use Rattle.std.specs.FinMap.{get-from_sorted, get-from_entries, entries-from_sorted}
 use Rattle.std.specs.FinMap.{slice_cmp-IsAntisymmetric, nat_cmp-IsAntisymmetric}
 use Rattle.std.specs.FinMap.Entries.{below_all}
 use Rattle.std.specs.Str.{bytes_eq}
 use Rattle.std.proofs.lemmas.Map.Text.{is_eq-slice_cmp}
-use Rattle.index_definitions.specs.Postings.{Posting}
-use Rattle.index_definitions.specs.Terms.{rising_terms, terms_of, HasTermsOf}
+use Rattle.std.proofs.lemmas.List.Folds.{list_any_at}
+use Rattle.std.proofs.lemmas.List.Sums.{fold-append}
+use Rattle.std.proofs.lemmas.Slice.Eq.{bytes_eq-Decides}
+use Rattle.index_definitions.specs.Terms.{has_term, HaveSameTerms, longest_of, rising_terms}
+use Rattle.index_definitions.proofs.GreatestLemmas.{greatest, greatest-le, le-greatest, greatest-max}
 
 both_true : (a b : Bool) → T a → T b → T (a && b)
 both_true true true p q = tt
@@ -49,13 +54,13 @@ is_sorted-entries (t ∷ ts) rising =
 -- a term is found exactly where it is one of the entries
 find-any :
     (q : List ℕ) (ts : List (List ℕ))
-    → find text_cmp q (map entry_of ts) ≡ cond (list_any (bytes_eq q) ts) (Some (tt {0})) None
+    → find text_cmp q (map entry_of ts) ≡ cond (has_term ts q) (Some (tt {0})) None
 find-any q [] = refl
 find-any q (t ∷ ts) =
     ap (λ b. cond b (Some tt) (find text_cmp q (map entry_of ts))) (is_eq-slice_cmp q t)
     ∙ elim (bytes_eq q t) as (λ b.
     cond b (Some (tt {0})) (find text_cmp q (map entry_of ts))
-    ≡ cond (b || list_any (bytes_eq q) ts) (Some (tt {0})) None)
+    ≡ cond (b || has_term ts q) (Some (tt {0})) None)
     [ true ↦ refl | false ↦ find-any q ts ]
 
 keys-entries : (ts : List (List ℕ)) → map (λ e. e.0) (map entry_of ts) ≡ ts
@@ -65,9 +70,7 @@ keys-entries (t ∷ ts) = ap (λ us. t ∷ us) (keys-entries ts)
 -- a list that rises and has the terms of another is those terms, each once
 pub rising_terms-unique :
     (all ts : List (List ℕ))
-    → IsStrictlySortedBy text_cmp ts
-    → ((q : List ℕ) → list_any (bytes_eq q) ts ≡ list_any (bytes_eq q) all)
-    → ts ≡ rising_terms all
+    → IsStrictlySortedBy text_cmp ts → HaveSameTerms ts all → ts ≡ rising_terms all
 rising_terms-unique all ts rising members =
     let order = is_sorted-entries ts rising in
     let same :
@@ -79,14 +82,40 @@ rising_terms-unique all ts rising members =
     sym (keys-entries ts)
     ∙ ap (map (λ e. e.0)) (sym (entries-from_sorted text_cmp (map entry_of ts) order)) ∙ ap keys same
 
-list_any-terms :
-    (q : List ℕ) (ps : List Posting)
-    → list_any (λ p. bytes_eq q p.term) ps ≡ list_any (bytes_eq q) (map (λ p. p.term) ps)
-list_any-terms q [] = refl
-list_any-terms q (p ∷ ps) = ap (λ b. bytes_eq q p.term || b) (list_any-terms q ps)
+-- ---- the longest term
 
-pub terms_of-unique :
-    (ps : List Posting) (ts : List (List ℕ))
-    → IsStrictlySortedBy text_cmp ts → HasTermsOf ps ts → ts ≡ terms_of ps
-terms_of-unique ps ts rising members =
-    rising_terms-unique (map (λ p. p.term) ps) ts rising (λ q. members q ∙ list_any-terms q ps)
+-- the characters of a term
+abbrev pub characters : List ℕ → ℕ
+characters t = length (chars t)
+
+same_characters : (t u : List ℕ) → bytes_eq t u ≡ true → characters t ≤ characters u
+same_characters t u same =
+    let is = ap characters ((bytes_eq-Decides t u).0 same) in omega (arith, is)
+
+-- no term is longer than the longest of as many or more terms
+longest_of-within : (ts us : List (List ℕ)) → HaveSameTerms ts us → longest_of ts ≤ longest_of us
+longest_of-within ts us same =
+    greatest-le characters 0 (longest_of us) ts (omega arith) (λ i d below.
+    let t = get_or ts i d in
+    let itself = list_any_at (bytes_eq t) ts i d below ((bytes_eq-Decides t t).1 refl) in
+    le-greatest characters (bytes_eq t) (characters t) 0 us (λ u equal. same_characters t u equal)
+    (sym (same t) ∙ itself))
+
+pub longest_of-same :
+    (ts us : List (List ℕ)) → HaveSameTerms ts us → longest_of ts ≡ longest_of us
+longest_of-same ts us same =
+    let one = longest_of-within ts us same in
+    let other = longest_of-within us ts (λ q. sym (same q)) in
+    omega (arith, one, other)
+
+-- that of two lists is the longer of both
+pub longest_of-append :
+    (ts us : List (List ℕ)) → max (longest_of ts) (longest_of us) ≡ longest_of (ts ++ us)
+longest_of-append ts us =
+    let turned : max (longest_of ts) (longest_of us) ≡ max (longest_of us) (longest_of ts) =
+    omega arith in
+    let from_none : max 0 (longest_of ts) ≡ longest_of ts = omega arith in
+    turned
+    ∙ sym (greatest-max characters 0 (longest_of ts) us)
+    ∙ ap (λ m. greatest characters m us) from_none
+    ∙ sym (fold-append (λ n t. max n (characters t)) 0 ts us)

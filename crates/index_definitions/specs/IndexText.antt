@@ -1,10 +1,12 @@
--- How is an index printed?
+-- How is an index printed, in full and in brief?
 --
--- Four lines of counts, and then a line for each term. Numbers are decimal, and each line ends with
--- a line feed. `count_line` is `unfoldable`: as an `abbrev` its texts would be spelt out in goals.
-use Rattle.std.specs.Prelude.{ℕ, ◌/◌, ◌%◌, ◌==◌, ◌||◌, nat_le, Bool, if◌then◌else◌, List, [], ◌∷◌, ◌++◌, map}
+-- In full, four lines of counts, and then a line for each term. In brief, its counts, and one number
+-- over all places at which terms stand. Numbers are decimal, and each line ends with a line feed.
+-- `count_line` is `unfoldable`: as an `abbrev` its texts would be spelt out in goals.
+use Rattle.std.specs.Prelude.{ℕ, ◌/◌, ◌%◌, ◌^◌, ◌==◌, ◌||◌, nat_le, Bool, if◌then◌else◌, List, [], ◌∷◌, ◌++◌, map}
 use Rattle.std.specs.Prelude.{length, codes, decimal, slice_index}
-use Rattle.std.specs.List.{flat_map, join_with_byte}
+use Rattle.std.specs.List.{flat_map, join_with_byte, sum_by}
+use Rattle.index_definitions.specs.PostingLists.{DocumentPositions, PostingList, pairs_of}
 use Rattle.index_definitions.specs.Index.{TermRecord, IndexRecord, index}
 
 -- two hexadecimal digits in lower case
@@ -26,11 +28,11 @@ abbrev pub escaped : List ℕ → List ℕ
 escaped term = flat_map escaped_byte term
 
 -- DOCUMENT:POSITION,POSITION
-abbrev pub document_text : ℕ × List ℕ → List ℕ
+abbrev pub document_text : DocumentPositions → List ℕ
 document_text e = decimal e.0 ++ codes ":" ++ join_with_byte 0x2C (map decimal e.1)
 
 -- DOCUMENT:POSITION,POSITION;DOCUMENT:POSITION
-abbrev pub postings_text : List (ℕ × List ℕ) → List ℕ
+abbrev pub postings_text : PostingList → List ℕ
 postings_text es = join_with_byte 0x3B (map document_text es)
 
 -- TERM TOTAL DOCUMENT:POSITION,POSITION;DOCUMENT:POSITION
@@ -53,3 +55,18 @@ text_of_index i =
 -- the text of the index of documents under a stop list
 abbrev pub index_text : List (List ℕ) → List ℕ → List ℕ
 index_text documents stop = text_of_index (index documents stop)
+
+-- the sum of the positions of a term in all documents
+abbrev pub sum_of_positions : TermRecord → ℕ
+sum_of_positions t = sum_by (λ pair. pair.1) (pairs_of t.postings)
+
+-- the sum of the positions of all terms in all documents, modulo 2^32
+abbrev pub position_sum : IndexRecord → ℕ
+position_sum i = sum_by sum_of_positions i.terms % (2 ^ 32)
+
+-- the summary of an index
+abbrev pub summary_of_index : IndexRecord → List ℕ
+summary_of_index i =
+    count_line (codes "documents") i.documents ++ count_line (codes "words") i.words
+    ++ count_line (codes "terms") (length i.terms)
+    ++ count_line (codes "positions") (position_sum i)

@@ -1,6 +1,7 @@
 pub mod Words
-pub mod Postings
 pub mod Terms
+pub mod Postings
 pub mod PostingLists
 pub mod Index
+pub mod Indexes
 pub mod IndexText

@@ -1,38 +1,35 @@
 -- Which postings does an index hold?
 --
 -- A posting says that a term stands in a document at a position. Documents and positions count from
--- 1. A word whose term is in the stop list takes its position and is not counted.
-use Rattle.std.specs.Prelude.{ℕ, Bool, not, List, map, length, filter, max, fold, chars}
-use Rattle.std.specs.List.{enumerate_from, flat_map, list_any}
+-- 1. A word whose term is stopped takes its position and is not counted.
+use Rattle.std.specs.Prelude.{ℕ, not, List, map, filter}
+use Rattle.std.specs.List.{enumerate_from, flat_map}
 use Rattle.std.specs.Str.{bytes_eq}
-use Rattle.index_definitions.specs.Words.{terms_in, words_in}
+use Rattle.index_definitions.specs.Words.{Word, words_in}
+use Rattle.index_definitions.specs.Terms.{has_term, rising_terms}
 
 pub record Posting : Type 0 where
   pub term : List ℕ
   pub document : ℕ
   pub position : ℕ
 
--- a term of the stop list
-abbrev pub is_stopped : List ℕ → List ℕ → Bool
-is_stopped stop term = list_any (bytes_eq term) (terms_in stop)
-
--- the counted words of a document
-abbrev pub counted_words : List ℕ → List ℕ → List (ℕ × List ℕ)
-counted_words stop document = filter (λ word. not (is_stopped stop word.1)) (words_in document)
+-- the counted words of a document, where these terms are stopped
+abbrev pub counted_words : List (List ℕ) → List ℕ → List Word
+counted_words stopped document = filter (λ word. not (has_term stopped word.1)) (words_in document)
 
 -- a word of the document with this number, as a posting
-abbrev pub posting_at : ℕ → ℕ × List ℕ → Posting
+abbrev pub posting_at : ℕ → Word → Posting
 posting_at document word = record { term = word.1; document = document; position = word.0 }
 
--- all postings, each once, in reading order
-abbrev pub postings : List (List ℕ) → List ℕ → List Posting
-postings documents stop =
-    flat_map (λ e. map (posting_at e.0) (counted_words stop e.1)) (enumerate_from 1 documents)
+-- all postings of documents, each once, in reading order
+abbrev pub postings : List (List ℕ) → List (List ℕ) → List Posting
+postings documents stopped =
+    flat_map (λ e. map (posting_at e.0) (counted_words stopped e.1)) (enumerate_from 1 documents)
 
 -- those of one term
 abbrev pub postings_of : List ℕ → List Posting → List Posting
 postings_of term ps = filter (λ p. bytes_eq term p.term) ps
 
--- the most characters of a term, or 0
-abbrev pub longest_of : List Posting → ℕ
-longest_of ps = fold (λ longest p. max longest (length (chars p.term))) 0 ps
+-- their terms, each once, in the order of their bytes
+abbrev pub terms_of : List Posting → List (List ℕ)
+terms_of ps = rising_terms (map (λ p. p.term) ps)

@@ -1,10 +1,10 @@
-//! What an index is: the definitions that contracts cite, and the law that its terms are one list.
+//! What an index is: the definitions that contracts cite, and a law of them.
 #![tactic(auto)]
 
 ghost use Rattle.index_definitions.specs.Terms.{TermsAreTheOneRisingList};
 
-/// The terms of postings are the one strictly rising list that has the postings' terms as members.
-/// It does nothing: its contract is a law of the definitions.
+/// The terms of a list, each once and in order, are the one strictly rising list that has these
+/// terms. It does nothing: its contract is a law of the definitions.
 pub fn terms_are_the_one_rising_list()
     ensures { TermsAreTheOneRisingList }
 {}

@@ -23,10 +23,12 @@ use Rattle.indexer.specs.declared.item.Item.{Item}
 use Rattle.indexer.specs.declared.item.Item.TheVariants.{Doc, Shard}
 use Rattle.indexer.specs.declared.item.ItemOp.{ItemOp}
 use Rattle.indexer.specs.declared.item.ItemOp.TheVariants.{Split, Gather}
-use Rattle.indexer.specs.Documents.{Word, Content, whole, split, split_words}
+use Rattle.index_definitions.specs.Words.{Word}
+use Rattle.index_definitions.specs.Postings.{counted_words}
+use Rattle.indexer.specs.Documents.{Content, whole, split}
 use Rattle.indexer.specs.Totals.{Totals, no_totals, totals_of}
-use Rattle.indexer.specs.Shards.{ShardParts, empty_shard, gathered_content}
-use Rattle.indexer.specs.Items.{own_set}
+use Rattle.shard.specs.Shards.{ShardParts, empty_shard}
+use Rattle.indexer.specs.Items.{own_set, gathered_content}
 use Rattle.indexer.specs.Builds.{item_meaning}
 use Rattle.indexer.specs.Stages.{whole_at, split_at, words_to, gathered_to, HasItems, HasMarks}
 use Rattle.indexer.specs.Stages.{IsSplitting, IsGathering}
@@ -83,7 +85,7 @@ made-shard stopped content documents number made old new is has accepted =
 
 split_at-here : (stopped documents : List (List ℕ)) (place : ℕ) →
     split_at stopped documents (place + 1) place
-    ≡ split (split_words stopped (get_or documents place []))
+    ≡ split (counted_words stopped (get_or documents place []))
 split_at-here stopped documents place =
     let less : nat_lt place (place + 1) ≡ true = grind arith in rw less refl
 
@@ -110,12 +112,12 @@ split_at-other stopped documents place other differ =
 
 words_to-more : (stopped documents : List (List ℕ)) (place : ℕ) → place < length documents →
     words_to stopped documents (place + 1)
-    ≡ words_to stopped documents place ++ split_words stopped (get_or documents place [])
+    ≡ words_to stopped documents place ++ counted_words stopped (get_or documents place [])
 words_to-more stopped documents place within =
-    ap (flat_map (split_words stopped)) (take_more documents place [] within)
-    ∙ flat_map-append (split_words stopped) (take place documents) (get_or documents place [] ∷ [])
+    ap (flat_map (counted_words stopped)) (take_more documents place [] within)
+    ∙ flat_map-append (counted_words stopped) (take place documents) (get_or documents place [] ∷ [])
     ∙ ap (λ more. words_to stopped documents place ++ more)
-    (append-nil (split_words stopped (get_or documents place [])))
+    (append-nil (counted_words stopped (get_or documents place [])))
 
 split_at-none : (stopped documents : List (List ℕ)) (place : ℕ) →
     split_at stopped documents 0 place ≡ whole_at documents place

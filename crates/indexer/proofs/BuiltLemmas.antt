@@ -14,26 +14,29 @@ use Rattle.std.proofs.lemmas.List.Folds.{flat_map-map}
 use Rattle.std.proofs.lemmas.List.Sorted.{All-permutation}
 use Rattle.std.proofs.lemmas.Option.{same_Some}
 use Rattle.index_definitions.specs.Index.{TermRecord, IndexRecord, term_record, by_document}
-use Rattle.index_definitions.specs.Postings.{Posting, postings_of}
-use Rattle.index_definitions.specs.Terms.{HasTermsOf, terms_of}
+use Rattle.index_definitions.specs.Index.{index_without}
+use Rattle.index_definitions.specs.Terms.{HaveSameTerms, has_term, longest_of}
+use Rattle.index_definitions.specs.Postings.{Posting, counted_words, postings, postings_of}
+use Rattle.index_definitions.specs.Postings.{terms_of}
 use Rattle.text_table.specs.TextTables.{AreDistinct}
 use Rattle.class_laws.specs.Counts.{Counts, text_order, count_of}
-use Rattle.indexer.specs.Builds.{split_postings, split_index}
-use Rattle.indexer.specs.Collected.{texts_of, IsTermOfShard, HasTermsOfShard, AppendsTermsOfShard}
+use Rattle.index_definitions.specs.Indexes.{texts_of}
+use Rattle.shard.specs.ShardTerms.{IsTermOfShard, HasTermsOfShard, AppendsTermsOfShard}
 use Rattle.indexer.specs.Collected.{CollectsTerms, with_count}
-use Rattle.indexer.specs.Documents.{split_words, has_term}
-use Rattle.indexer.specs.Held.{split_all, shard_after}
-use Rattle.indexer.specs.Shards.{ShardParts, shard_of}
+use Rattle.shard.proofs.HeldLemmas.{shard_after}
+use Rattle.shard.specs.Shards.{ShardParts}
+use Rattle.document_terms.specs.Shards.{shard_of}
 use Rattle.indexer.specs.Stages.{split_at, words_to, gathered_to}
 use Rattle.indexer.specs.Totals.{Totals, totals_of}
 use Rattle.indexer.proofs.CollectedLemmas.{has_term-permutation, texts_of-with_count}
 use Rattle.indexer.proofs.GatheredAllLemmas.{All-flat, apart, texts_of-flat, gathered_shard}
 use Rattle.indexer.proofs.GatheredAllLemmas.{gathered-all, words_to-all}
-use Rattle.indexer.proofs.HeldTermsLemmas.{has_posting, get-shard_after, is_some-shard_after}
-use Rattle.indexer.proofs.HeldTermsLemmas.{HasTermsOf-shards}
+use Rattle.shard.proofs.HeldTermsLemmas.{has_posting, get-shard_after, is_some-shard_after}
+use Rattle.shard.proofs.HeldTermsLemmas.{HaveSameTerms-shards}
 use Rattle.indexer.proofs.JoinedLemmas.{count_in-few}
-use Rattle.indexer.proofs.SplitPostingsLemmas.{all_words, length-postings, longest-postings}
-use Rattle.indexer.proofs.SplitPostingsLemmas.{length-postings_of, term_records-all}
+use Rattle.index_definitions.proofs.PostingsLemmas.{counted_all, all_words, length-postings}
+use Rattle.index_definitions.proofs.PostingsLemmas.{terms-postings, length-postings_of}
+use Rattle.index_definitions.proofs.PostingsLemmas.{term_records-all}
 use Rattle.indexer.proofs.StagesLemmas.{below}
 use Rattle.indexer.proofs.WordCountLemmas.{AreWithin, few_words}
 
@@ -50,7 +53,7 @@ collects-none parts = record {
 
 -- the terms of one shard more
 pub collects-push : (parts : ℕ → ShardParts) (shards : ℕ) (terms longer : List TermRecord)
-    → CollectsTerms parts shards terms → AppendsTermsOfShard (parts shards).places terms longer
+    → CollectsTerms parts shards terms → AppendsTermsOfShard (parts shards).lists terms longer
     → CollectsTerms parts (shards + 1) longer
 collects-push parts shards terms longer collects appends =
     let lists = collects.lists in
@@ -65,11 +68,11 @@ collects-push parts shards terms longer collects appends =
           ∙ sym (flat_map-append (λ list. list) lists (more ∷ []));
       each = below shards
           (λ number within.
-          subst (HasTermsOfShard (parts number).places)
+          subst (HasTermsOfShard (parts number).lists)
           (sym (get_or_append_left lists (more ∷ []) [] number
           (omega (arith, within, collects.count))))
           (collects.each number within))
-          (subst (HasTermsOfShard (parts shards).places)
+          (subst (HasTermsOfShard (parts shards).lists)
           (sym (get_or_push lists more [] shards collects.count)) appends.terms_are);
     }
 
@@ -86,20 +89,20 @@ same_found false x y found = cc
 
 module _ (stopped documents : List (List ℕ)) (terms : List TermRecord)
     (collects : CollectsTerms (gathered_shard stopped documents) 16 terms) where
-  abbrev postings : List Posting
-  postings = split_postings stopped documents
+  abbrev all_postings : List Posting
+  all_postings = postings documents stopped
 
   abbrev held : ℕ → ShardParts
-  held number = shard_after number (split_all stopped documents)
+  held number = shard_after number (counted_all stopped documents)
 
   abbrev lists_of_texts : List (List (List ℕ))
   lists_of_texts = map texts_of collects.lists
 
   -- a list has the terms of its shard
   own_terms : (number : ℕ) → number < 16
-      → HasTermsOfShard (held number).places (get_or collects.lists number [])
+      → HasTermsOfShard (held number).lists (get_or collects.lists number [])
   own_terms number within =
-      subst (λ shard. HasTermsOfShard shard.places (get_or collects.lists number []))
+      subst (λ shard. HasTermsOfShard shard.lists (get_or collects.lists number []))
       (gathered-all stopped documents number) (collects.each number within)
 
   own_texts : (number : ℕ) → number < 16
@@ -112,7 +115,7 @@ module _ (stopped documents : List (List ℕ)) (terms : List TermRecord)
   own_shard number within =
       let list = get_or collects.lists number [] in
       All-map (λ t. shard_of t ≡ 0 + number) (λ (r : TermRecord). r.text) list
-      (All-weaker (IsTermOfShard (held number).places) (λ r. shard_of r.text ≡ 0 + number)
+      (All-weaker (IsTermOfShard (held number).lists) (λ r. shard_of r.text ≡ 0 + number)
       (λ r is.
       let any = has_posting stopped documents r.text in
       let both : (any && (shard_of r.text == number)) ≡ true =
@@ -139,10 +142,10 @@ module _ (stopped documents : List (List ℕ)) (terms : List TermRecord)
       ))).distinct
 
   -- and each term of a posting belongs to one of the shards
-  texts-members : HasTermsOf postings (texts_of terms)
+  texts-members : HaveSameTerms (texts_of terms) (map (λ p. p.term) all_postings)
   texts-members t =
       ap (λ ts. has_term ts t) texts_are
-      ∙ HasTermsOf-shards stopped documents lists_of_texts sixteen
+      ∙ HaveSameTerms-shards stopped documents lists_of_texts sixteen
       (λ number within q. ap (λ ts. has_term ts q) (own_texts number within)
       ∙ (own_terms number within).members q) t
 
@@ -151,38 +154,38 @@ module _ (stopped documents : List (List ℕ)) (terms : List TermRecord)
     counts = (totals_of (all_words stopped documents)).1
 
     -- with its count a term is what the postings say of it
-    term-counted : (number : ℕ) (r : TermRecord) → IsTermOfShard (held number).places r
-        → with_count counts r ≡ term_record (length documents) postings r.text
+    term-counted : (number : ℕ) (r : TermRecord) → IsTermOfShard (held number).lists r
+        → with_count counts r ≡ term_record (length documents) all_postings r.text
     term-counted number r is =
         let t = r.text in
         let found = same_found (has_posting stopped documents t && (shard_of t == number))
-        r.postings (by_document (length documents) (postings_of t postings))
+        r.postings (by_document (length documents) (postings_of t all_postings))
         (sym is.postings_are ∙ get-shard_after stopped documents number t) in
-        let total : count_of counts t ≡ length (postings_of t postings) =
+        let total : count_of counts t ≡ length (postings_of t all_postings) =
         count_in-few (all_words stopped documents) t few
         ∙ sym (length-postings_of stopped documents t) in
         cc
 
     terms-counted : All (λ r. with_count counts r
-        ≡ term_record (length documents) postings r.text) terms
+        ≡ term_record (length documents) all_postings r.text) terms
     terms-counted =
         let P = λ (r : TermRecord).
-        with_count counts r ≡ term_record (length documents) postings r.text in
+        with_count counts r ≡ term_record (length documents) all_postings r.text in
         subst (All P) (sym collects.terms_are) (All-flat P collects.lists (λ number inside.
         let within : number < 16 = omega (arith, inside, collects.count) in
-        All-weaker (IsTermOfShard (held number).places) P (term-counted number)
+        All-weaker (IsTermOfShard (held number).lists) P (term-counted number)
         (get_or collects.lists number []) (own_terms number within).each))
 
     terms-built : (sorted : List TermRecord)
         → IsPermutation (map (with_count counts) terms) sorted
         → (AreDistinct (texts_of (map (with_count counts) terms))
         → IsStrictlySortedBy text_order (texts_of sorted))
-        → sorted ≡ map (term_record (length documents) postings) (terms_of postings)
+        → sorted ≡ map (term_record (length documents) all_postings) (terms_of all_postings)
     terms-built sorted moved rises =
         let all = map (with_count counts) terms in
         let texts = texts_of-with_count counts terms in
-        let P = λ (r : TermRecord). r ≡ term_record (length documents) postings r.text in
-        term_records-all (length documents) postings sorted
+        let P = λ (r : TermRecord). r ≡ term_record (length documents) all_postings r.text in
+        term_records-all (length documents) all_postings sorted
         (rises (subst AreDistinct (sym texts) texts-distinct))
         (λ t. sym (has_term-permutation all sorted t moved)
         ∙ ap (λ ts. has_term ts t) texts ∙ texts-members t)
@@ -206,7 +209,7 @@ MakeIndex stopped documents n terms sorted totals =
     IsPermutation (map (with_count totals.1) terms) sorted
     → (AreDistinct (texts_of (map (with_count totals.1) terms))
     → IsStrictlySortedBy text_order (texts_of sorted))
-    → index_with n totals sorted ≡ split_index stopped documents
+    → index_with n totals sorted ≡ index_without documents stopped
 
 made : (stopped documents : List (List ℕ))
     → length documents ≤ 65536 → AreWithin documents → (terms sorted : List TermRecord)
@@ -219,11 +222,11 @@ made stopped documents count within terms sorted collects moved rises =
     omega (
       arith,
       few_words stopped documents count within,
-      ap length (flat_map-map (λ w. w) (split_words stopped) documents),
+      ap length (flat_map-map (λ w. w) (counted_words stopped) documents),
     ) in
-    let words_are : length words % (2 ^ 64) ≡ length (split_postings stopped documents) =
+    let words_are : length words % (2 ^ 64) ≡ length (postings documents stopped) =
     omega (arith, few, length-postings stopped documents) in
-    let longest_is = longest-postings stopped documents in
+    let longest_is = ap longest_of (terms-postings stopped documents) in
     let terms_are = terms-built stopped documents terms collects few sorted moved rises in
     cc
 
@@ -237,7 +240,7 @@ pub built : (stopped documents : List (List ℕ)) (n : ℕ)
     (texts_of (map (with_count (totals_of (words_to stopped documents n)).1) terms))
     → IsStrictlySortedBy text_order (texts_of sorted))
     → index_with n (totals_of (words_to stopped documents n)) sorted
-    ≡ split_index stopped documents
+    ≡ index_without documents stopped
 built stopped documents n is count within terms sorted =
     subst (λ m. CollectsTerms (gathered_to (split_at stopped documents m) m) 16 terms
     → MakeIndex stopped documents m terms sorted (totals_of (words_to stopped documents m))) is
@@ -254,7 +257,7 @@ pub built_from : (stopped documents : List (List ℕ)) (n : ℕ)
     → totals ≡ totals_of (words_to stopped documents n)
     → counted ≡ map (with_count totals.1) terms → IsPermutation counted sorted
     → (AreDistinct (texts_of counted) → IsStrictlySortedBy text_order (texts_of sorted))
-    → index_with n totals sorted ≡ split_index stopped documents
+    → index_with n totals sorted ≡ index_without documents stopped
 built_from stopped documents n is few within terms counted sorted totals collects totals_are
     counted_are moved rises =
     let counts = totals_of (words_to stopped documents n) in

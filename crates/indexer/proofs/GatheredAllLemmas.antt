@@ -11,13 +11,16 @@ use Rattle.std.proofs.lemmas.List.Folds.{flat_map-map}
 use Rattle.std.proofs.lemmas.List.Kept.{AllPairs-cons}
 use Rattle.index_definitions.specs.Index.{TermRecord}
 use Rattle.text_table.specs.TextTables.{AreDistinct}
-use Rattle.indexer.specs.Collected.{texts_of}
-use Rattle.indexer.specs.Documents.{split, split_words}
-use Rattle.indexer.specs.Held.{split_all, shard_after}
-use Rattle.indexer.specs.Shards.{ShardParts, gathered_content, shard_of}
+use Rattle.index_definitions.specs.Indexes.{texts_of}
+use Rattle.index_definitions.specs.Postings.{counted_words}
+use Rattle.indexer.specs.Documents.{split}
+use Rattle.shard.proofs.HeldLemmas.{shard_after}
+use Rattle.shard.specs.Shards.{ShardParts, gathered_last}
+use Rattle.document_terms.specs.Shards.{shard_of}
+use Rattle.indexer.specs.Items.{gathered_content}
 use Rattle.indexer.specs.Stages.{split_at, whole_at, words_to, gathered_to}
-use Rattle.indexer.proofs.HeldLemmas.{shard_after-push}
-use Rattle.indexer.proofs.SplitPostingsLemmas.{all_words}
+use Rattle.shard.proofs.HeldLemmas.{shard_after-push}
+use Rattle.index_definitions.proofs.PostingsLemmas.{counted_all, all_words}
 
 -- ---- lists of lists
 
@@ -98,40 +101,40 @@ module _ (stopped documents : List (List ℕ)) where
   -- after the first k documents
   gathered-upto : (number k : ℕ) → k ≤ length documents
       → gathered_to (split_at stopped documents (length documents)) k number
-      ≡ shard_after number (take k (split_all stopped documents))
+      ≡ shard_after number (take k (counted_all stopped documents))
   gathered-upto number zero within = refl
   gathered-upto number (suc k) within =
-      let words = split_all stopped documents in
+      let words = counted_all stopped documents in
       let here : k < length documents = omega arith in
-      let long = length-map documents (split_words stopped) in
+      let long = length-map documents (counted_words stopped) in
       let is_split : nat_lt k (length documents) ≡ true = grind (arith, common_steps) in
-      let mine = split_words stopped (get_or documents k []) in
+      let mine = counted_words stopped (get_or documents k []) in
       let more : take (suc k) words ≡ take k words ++ mine ∷ [] =
       ap (λ j. take j words) (sym (add-one k))
       ∙ take_more words k [] (omega (arith, here, long))
       ∙ ap (λ w. take k words ++ w ∷ [])
-      (get_or-map (split_words stopped) documents k [] [] here) in
+      (get_or-map (counted_words stopped) documents k [] [] here) in
       let number_is : length (take k words) + 1 ≡ suc k =
       omega (arith, length-take-le k words (omega (arith, here, long))) in
       ap (λ b. gathered_content
       (gathered_to (split_at stopped documents (length documents)) k number) (suc k)
       (cond b (split mine) (whole_at documents k))) is_split
-      ∙ ap (λ s. gathered_content s (suc k) (split mine)) (gathered-upto number k (omega arith))
+      ∙ ap (λ s. gathered_last s (suc k) mine) (gathered-upto number k (omega arith))
       ∙ sym (ap (shard_after number) more
       ∙ shard_after-push number (take k words) mine
-      ∙ ap (λ d. gathered_content (shard_after number (take k words)) d (split mine)) number_is)
+      ∙ ap (λ d. gathered_last (shard_after number (take k words)) d mine) number_is)
 
   -- it holds all documents
   pub gathered-all : (number : ℕ)
-      → gathered_shard number ≡ shard_after number (split_all stopped documents)
+      → gathered_shard number ≡ shard_after number (counted_all stopped documents)
   gathered-all number =
       gathered-upto number (length documents) (omega arith)
-      ∙ ap (shard_after number) (take_all (length documents) (split_all stopped documents)
-      (omega (arith, length-map documents (split_words stopped))))
+      ∙ ap (shard_after number) (take_all (length documents) (counted_all stopped documents)
+      (omega (arith, length-map documents (counted_words stopped))))
 
   -- the counted words are those of all postings
   pub words_to-all :
       words_to stopped documents (length documents) ≡ all_words stopped documents
   words_to-all =
-      ap (flat_map (split_words stopped)) (take_all (length documents) documents (omega arith))
-      ∙ sym (flat_map-map (λ w. w) (split_words stopped) documents)
+      ap (flat_map (counted_words stopped)) (take_all (length documents) documents (omega arith))
+      ∙ sym (flat_map-map (λ w. w) (counted_words stopped) documents)

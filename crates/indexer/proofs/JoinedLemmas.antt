@@ -1,6 +1,6 @@
 -- What the totals of several documents come to together.
-use Rattle.std.proofs.Common.{◌≡◌, ℕ, suc, ◌+◌, ◌<◌, ◌≤◌, List, [], ◌∷◌, ◌++◌, length, max}
-use Rattle.std.proofs.Common.{Bool, true, false, cond, Option, Some, None, map, filter, chars}
+use Rattle.std.proofs.Common.{◌≡◌, ℕ, suc, ◌+◌, ◌<◌, ◌≤◌, List, [], ◌∷◌, ◌++◌, length}
+use Rattle.std.proofs.Common.{Bool, true, false, cond, Option, Some, None, map, filter}
 use Rattle.std.proofs.Common.{refl, sym, ap, ap₂, ◌∙◌, arith, append-nil, length-append}
 use Rattle.std.specs.Prelude.{◌||◌, ◌%◌, ◌^◌}
 use Rattle.std.specs.FinMap as finite
@@ -11,17 +11,17 @@ use Rattle.std.specs.Str.{bytes_eq}
 use Rattle.std.proofs.lemmas.List.{map-append}
 use Rattle.std.proofs.lemmas.List.Elements.{filter-append}
 use Rattle.std.proofs.lemmas.List.Folds.{list_any-append}
-use Rattle.std.proofs.lemmas.List.Sums.{fold-append}
 use Rattle.class_laws.specs.Counts.{text_order, count_of, counts_join}
 use Rattle.class_laws.specs.Laws.Counts.{text_order_total, same_counts}
 use Rattle.class_laws.specs.Laws.Counts.{count_after_join, get-counts_join}
 use Rattle.class_laws.specs.Numbers.{wrap_sum, maximum}
 use Rattle.class_laws.specs.Pairs.{both_of}
-use Rattle.indexer.specs.Documents.{Word, positions_of, longest_in}
+use Rattle.index_definitions.specs.Words.{Word, word_terms, positions_of}
+use Rattle.index_definitions.specs.Terms.{longest_of}
 use Rattle.indexer.specs.Totals.{no_totals, totals_join, counts_in, totals_of}
-use Rattle.indexer.proofs.LongestLemmas.{greatest}
-use Rattle.indexer.proofs.ShardLemmas.{greatest-max}
-use Rattle.indexer.proofs.TotalsLemmas.{find_keyed, size_in}
+use Rattle.index_definitions.proofs.TermsLemmas.{longest_of-append}
+use Rattle.shard.proofs.FindLemmas.{find_keyed}
+use Rattle.indexer.proofs.TotalsLemmas.{size_in}
 
 -- ---- the count of a term
 
@@ -87,22 +87,6 @@ counts_in-append a b = same_counts _ _ (λ q.
     ∙ ap₂ counted (sym (list_any-append is a b)) (sym (size-append a b q))
     ∙ sym (get-counts_in (a ++ b) q))
 
--- ---- the longest term
-
--- the characters of a word's term
-abbrev word_characters : Word → ℕ
-word_characters w = length (chars w.1)
-
-longest_in-append : (a b : List Word) → max (longest_in a) (longest_in b) ≡ longest_in (a ++ b)
-longest_in-append a b =
-    let turned : max (longest_in a) (longest_in b) ≡ max (longest_in b) (longest_in a) =
-    omega arith in
-    let from_none : max 0 (longest_in a) ≡ longest_in a = omega arith in
-    turned
-    ∙ sym (greatest-max word_characters 0 (longest_in a) b)
-    ∙ ap (λ m. greatest word_characters m b) from_none
-    ∙ sym (fold-append (λ n w. max n (word_characters w)) 0 a b)
-
 -- ---- totals
 
 both-equal : {A B : Type 0} {a c : A} {b d : B} → a ≡ c → b ≡ d → both_of a b ≡ both_of c d
@@ -114,7 +98,9 @@ pub totals_of-append :
 totals_of-append a b =
     let more = length-append a b in
     both-equal
-    (both-equal (ap wrap_sum (omega arith)) (ap maximum (longest_in-append a b)))
+    (both-equal (ap wrap_sum (omega arith))
+    (ap maximum (longest_of-append (word_terms a) (word_terms b)
+    ∙ ap longest_of (sym (map-append (λ (w : Word). w.1) a b)))))
     (counts_in-append a b)
 
 -- no words come to nothing

@@ -24,11 +24,13 @@ use Rattle.indexer.specs.declared.item.Item.{Item}
 use Rattle.indexer.specs.declared.item.Item.TheVariants.{Doc, Shard, Stop}
 use Rattle.indexer.specs.declared.item.ItemOp.{ItemOp}
 use Rattle.indexer.specs.declared.item.ItemOp.TheVariants.{Split, Gather}
-use Rattle.indexer.specs.Documents.{Word, Content, whole, split, split_words}
+use Rattle.index_definitions.specs.Words.{Word}
+use Rattle.index_definitions.specs.Postings.{counted_words}
+use Rattle.indexer.specs.Documents.{Content, whole, split}
 use Rattle.indexer.specs.Totals.{Totals, no_totals, totals_of, totals_join}
 use Rattle.indexer.proofs.JoinedLemmas.{totals_of-append, totals_of-nothing_more}
-use Rattle.indexer.specs.Shards.{ShardParts, gathered_content}
-use Rattle.indexer.specs.Items.{own_set}
+use Rattle.shard.specs.Shards.{ShardParts}
+use Rattle.indexer.specs.Items.{own_set, gathered_content}
 use Rattle.indexer.specs.Builds.{item_meaning}
 use Rattle.indexer.specs.Stages.{HasItems}
 
@@ -198,14 +200,14 @@ module _ (stopped : List (List ℕ)) (content : ℕ → Content) (parts : ℕ �
         content place ≡ whole bytes →
         new ≡ state_after item_meaning old
         (call.Delegate (object_id (1 + place)) Split (Some (object_id 0))) →
-        (after : ℕ → Content) → after place ≡ split (split_words stopped bytes) →
+        (after : ℕ → Content) → after place ≡ split (counted_words stopped bytes) →
         ((other : ℕ) → place ≢ other → after other ≡ content other) →
         HasItems new stopped documents shards after parts
-        (totals_of (words ++ split_words stopped bytes))
+        (totals_of (words ++ counted_words stopped bytes))
     items-split place within bytes is_whole is after is_split others =
         let there : slice_get old.values (1 + place) ≡ Some (Doc (whole bytes)) =
         has.document place within ∙ ap (λ c. Some (Doc c)) is_whole in
-        let more = split_words stopped bytes in
+        let more = counted_words stopped bytes in
         let value = Doc (split more) in
         let state : new ≡ record {
           values = slice_set old.values (1 + place) value;

@@ -1,37 +1,18 @@
 -- What the terms of words come to, term by term.
-use Rattle.std.proofs.Common.{◌≡◌, ℕ, List, [], ◌∷◌, ◌++◌, map, length, Some, None, cond}
-use Rattle.std.proofs.Common.{true, false, refl, sym, ap, ◌∙◌, append-nil}
-use Rattle.std.specs.Prelude.{◌||◌}
+use Rattle.std.proofs.Common.{◌≡◌, ℕ, List, [], ◌∷◌, map, length, Some, None, cond}
+use Rattle.std.proofs.Common.{refl, sym, ap, ◌∙◌, append-nil}
 use Rattle.std.specs.FinMap as finite
 use Rattle.std.specs.FinMap.{find}
-use Rattle.std.specs.List.{list_any, zip}
+use Rattle.std.specs.List.{zip}
 use Rattle.std.specs.Str.{bytes_eq}
-use Rattle.std.proofs.lemmas.Map.Text.{is_eq-slice_cmp}
-use Rattle.std.proofs.lemmas.Slice.Eq.{bytes_eq-Decides}
+use Rattle.index_definitions.proofs.ListsLemmas.{list_any-map}
 use Rattle.class_laws.specs.Counts.{text_order}
 use Rattle.class_laws.specs.CountTables.{count_from, counts_of}
 use Rattle.class_laws.specs.Laws.Counts.{text_order_total, same_counts}
-use Rattle.indexer.specs.Documents.{Word, positions_of}
-use Rattle.indexer.specs.NumberedWords.{AreTermsOf}
+use Rattle.index_definitions.specs.Words.{Word, positions_of}
+use Rattle.document_terms.specs.Counted.{AreTermsOf}
+use Rattle.shard.proofs.FindLemmas.{find_keyed}
 use Rattle.indexer.specs.Totals.{counts_in}
-
--- a look-up among items whose values hang on their keys
-pub find_keyed :
-    {A X : Type 0} (key : A → List ℕ) (value : List ℕ → X) (q : List ℕ) (xs : List A)
-    (others : List (List ℕ × X))
-    → find text_order q (map (λ x. (key x, value (key x))) xs ++ others)
-    ≡ cond (list_any (λ x. bytes_eq q (key x)) xs) (Some (value q)) (find text_order q others)
-find_keyed key value q [] others = refl
-find_keyed key value q (x ∷ xs) others =
-    let rest = find text_order q (map (λ y. (key y, value (key y))) xs ++ others) in
-    let any = list_any (λ y. bytes_eq q (key y)) xs in
-    ap (λ b. cond b (Some (value (key x))) rest) (is_eq-slice_cmp q (key x))
-    ∙ elim (bytes_eq q (key x)) as (λ b. bytes_eq q (key x) ≡ b
-    → cond b (Some (value (key x))) rest
-    ≡ cond (b || any) (Some (value q)) (find text_order q others)) [
-      | true ↦ λ same. ap (λ k. Some (value k)) (sym ((bytes_eq-Decides q (key x)).0 same))
-      | false ↦ λ _. find_keyed key value q xs others
-    ] refl
 
 -- how many words a term has
 abbrev pub size_in : List Word → List ℕ → ℕ
@@ -55,7 +36,8 @@ counts_in-terms ts ws are = same_counts _ _ (λ q.
     ∙ finite.get-from_entries text_order_total by_terms q
     ∙ ap (find text_order q) (sym (append-nil by_terms))
     ∙ find_keyed (λ (t : List ℕ). t) value q ts []
-    ∙ ap (λ b. cond b (Some (value q)) None) (are.members q)
+    ∙ ap (λ b. cond b (Some (value q)) None)
+    (are.members q ∙ list_any-map (bytes_eq q) (λ (w : Word). w.1) ws)
     ∙ sym (finite.get-from_entries text_order_total by_words q
     ∙ ap (find text_order q) (sym (append-nil by_words))
     ∙ find_keyed (λ (w : Word). w.1) value q ws []))

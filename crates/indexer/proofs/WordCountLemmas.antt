@@ -8,7 +8,9 @@ use Rattle.std.proofs.lemmas.List.Elements.{All-weaker, All-map, All-from_recurs
 use Rattle.std.proofs.lemmas.List.Sums.{length-filter, count_by-le-length, sum_by-le}
 use Rattle.index_definitions.specs.Words.{words_in}
 use Rattle.doc_words.proofs.WordCountLemmas.{few_words_in}
-use Rattle.indexer.specs.Documents.{Word, has_term, split_words}
+use Rattle.index_definitions.specs.Words.{Word}
+use Rattle.index_definitions.specs.Terms.{has_term}
+use Rattle.index_definitions.specs.Postings.{counted_words}
 
 -- at most 8 MiB each
 abbrev pub AreWithin : List (List ℕ) → Type 0
@@ -26,7 +28,7 @@ AreWithin-vectors docs within =
     (All-from_recursion (λ document. vec_len document ≤ 8388608) docs within))
 
 few_split : (stopped : List (List ℕ)) (document : List ℕ)
-    → length (split_words stopped document) ≤ 3 * length document
+    → length (counted_words stopped document) ≤ 3 * length document
 few_split stopped document =
     let counted = λ (word : Word). not (has_term stopped word.1) in
     omega (
@@ -38,10 +40,10 @@ few_split stopped document =
 
 pub few_words : (stopped documents : List (List ℕ))
     → length documents ≤ 65536 → AreWithin documents
-    → length (flat_map (split_words stopped) documents) < 2 ^ 64
+    → length (flat_map (counted_words stopped) documents) < 2 ^ 64
 few_words stopped documents count within =
     let each = All-weaker (λ d. length d ≤ 8388608)
-    (λ d. length (split_words stopped d) ≤ 25165824)
+    (λ d. length (counted_words stopped d) ≤ 25165824)
     (λ d small. omega (arith, small, few_split stopped d)) documents within in
-    let all = sum_by-le (λ d. length (split_words stopped d)) 25165824 documents each in
-    omega (arith, length-flat_map (split_words stopped) documents, all, count)
+    let all = sum_by-le (λ d. length (counted_words stopped d)) 25165824 documents each in
+    omega (arith, length-flat_map (counted_words stopped) documents, all, count)

@@ -4,13 +4,18 @@
 -- contributed.
 use Rattle.std.specs.Prelude.{ℕ, Some}
 use Rattle.std.specs.declared.option.Option.{Option}
-use Rattle.indexer.specs.Documents.{split_content}
+use Rattle.shard.specs.Shards.{ShardParts, gathered_last}
+use Rattle.indexer.specs.Documents.{Content, whole, split, split_content}
 use Rattle.indexer.specs.Totals.{Totals, no_totals, split_totals}
-use Rattle.indexer.specs.Shards.{gathered_content}
 use Rattle.indexer.specs.declared.item.Item.{Item}
 use Rattle.indexer.specs.declared.item.Item.TheVariants.{Doc, Shard, Stop}
 use Rattle.indexer.specs.declared.item.ItemOp.{ItemOp}
 use Rattle.indexer.specs.declared.item.ItemOp.TheVariants.{Split, Gather}
+
+-- the shard after a gather of a document, which changes nothing unless the document is split
+abbrev pub gathered_content : ShardParts → ℕ → Content → ShardParts
+gathered_content shard document (whole bytes) = shard
+gathered_content shard document (split words) = gathered_last shard document words
 
 -- the item after an operation
 abbrev pub item_after : Item → ItemOp → Option Item → Item

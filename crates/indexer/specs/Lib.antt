@@ -1,11 +1,7 @@
 pub mod Documents
 pub mod Totals
-pub mod Shards
 pub mod Items
 pub mod Builds
 pub mod Stages
 pub mod Collected
-pub mod NumberedWords
-pub mod ShardTables
-pub mod KeptDocuments
-pub mod Held
+pub mod kept

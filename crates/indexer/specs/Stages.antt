@@ -12,9 +12,12 @@ use Rattle.execution_definitions.specs.Sets.{set_by}
 use Rattle.partition_check.specs.declared.mark.Mark.{Mark}
 use Rattle.partition_check.specs.Marked.{Marked, mark_at}
 use Rattle.delegation.specs.Sequential.{State}
-use Rattle.indexer.specs.Documents.{Word, Content, whole, split, split_words}
+use Rattle.index_definitions.specs.Words.{Word}
+use Rattle.index_definitions.specs.Postings.{counted_words}
+use Rattle.shard.specs.Shards.{ShardParts, empty_shard}
+use Rattle.indexer.specs.Documents.{Content, whole, split}
 use Rattle.indexer.specs.Totals.{Totals}
-use Rattle.indexer.specs.Shards.{ShardParts, empty_shard, gathered_content}
+use Rattle.indexer.specs.Items.{gathered_content}
 use Rattle.indexer.specs.declared.item.Item.{Item}
 use Rattle.indexer.specs.declared.item.Item.TheVariants.{Doc, Shard, Stop}
 
@@ -84,12 +87,12 @@ IsGathering marks count = MayDelegate marks (17 + count) (1 + count) (17 + count
 abbrev pub split_at : List (List ℕ) → List (List ℕ) → ℕ → ℕ → Content
 split_at stopped documents count place =
     if nat_lt place count
-    then split (split_words stopped (slice_index_or documents place []))
+    then split (counted_words stopped (slice_index_or documents place []))
     else whole_at documents place
 
 -- the counted words of the first of these documents
 abbrev pub words_to : List (List ℕ) → List (List ℕ) → ℕ → List Word
-words_to stopped documents count = flat_map (split_words stopped) (take count documents)
+words_to stopped documents count = flat_map (counted_words stopped) (take count documents)
 
 -- a shard, once this many documents are gathered
 abbrev pub gathered_to : (ℕ → Content) → ℕ → ℕ → ShardParts

@@ -8,8 +8,10 @@ use Rattle.class_laws.specs.Counts.{Counts, counts_join}
 use Rattle.class_laws.specs.Numbers.{wrap_sum, wrap_sum_unit, wrap_sum_join}
 use Rattle.class_laws.specs.Numbers.{maximum, max_unit, max_join}
 use Rattle.class_laws.specs.Pairs.{both_of, both_join}
-use Rattle.indexer.specs.Documents.{Word, Content, whole, split, split_words}
-use Rattle.indexer.specs.Documents.{positions_of, longest_in}
+use Rattle.index_definitions.specs.Words.{Word, word_terms, positions_of}
+use Rattle.index_definitions.specs.Terms.{longest_of}
+use Rattle.index_definitions.specs.Postings.{counted_words}
+use Rattle.indexer.specs.Documents.{Content, whole, split}
 
 -- what is counted: the words, the characters of the longest term, and the words of each term
 abbrev pub Totals : Type 0
@@ -32,10 +34,11 @@ counts_in words =
 -- what counted words come to
 abbrev pub totals_of : List Word → Totals
 totals_of words =
-    both_of (both_of (wrap_sum (length words % (2 ^ 64))) (maximum (longest_in words)))
+    both_of
+    (both_of (wrap_sum (length words % (2 ^ 64))) (maximum (longest_of (word_terms words))))
     (counts_in words)
 
 -- what a split of a document contributes
 abbrev pub split_totals : List (List ℕ) → Content → Totals
-split_totals stopped (whole bytes) = totals_of (split_words stopped bytes)
+split_totals stopped (whole bytes) = totals_of (counted_words stopped bytes)
 split_totals stopped (split words) = no_totals

@@ -2,24 +2,29 @@
 ghost use Rattle.std.specs.Prelude.{◌≡◌, ◌+◌, ◌*◌, ◌^◌, ◌<◌, ◌≤◌, ℕ, List, [], ◌∷◌, map, length};
 ghost use Rattle.std.specs.Prelude.{Err, Ok, true, false, vec_len, IfOk, OnOk};
 ghost use Rattle.std.specs.List.{AllByRecursion, flat_map};
-ghost use Rattle.index_definitions.specs.Index.{index};
+ghost use Rattle.index_definitions.specs.Words.{Word};
+ghost use Rattle.index_definitions.specs.Index.{index_without};
 ghost use Rattle.delegation.specs.Runtimes.{IsAfter};
 ghost use Rattle.delegation.specs.declared.call.Fault.TheVariants.{Refused};
-ghost use Rattle.indexer.specs.Builds.{item_meaning, split_index, Stops};
-ghost use Rattle.indexer.specs.Documents.{Content, Word};
-ghost use Rattle.indexer.specs.Shards.{empty_shard, ShardParts, gathered_content};
+ghost use Rattle.shard.specs.Shards.{empty_shard, ShardParts};
+ghost use Rattle.shard.specs.ShardTerms.{AppendsTermsOfShard};
+ghost use Rattle.indexer.specs.Builds.{item_meaning};
+ghost use Rattle.indexer.specs.Documents.{Content};
+ghost use Rattle.indexer.specs.Items.{gathered_content};
 ghost use Rattle.indexer.specs.Totals.{Totals, no_totals, totals_of};
 ghost use Rattle.indexer.specs.Stages.{whole_at, split_at, words_to, gathered_to, HasItems};
 ghost use Rattle.indexer.specs.Stages.{HasMarks, IsGathering};
-ghost use Rattle.indexer.specs.Collected.{AppendsTermsOfShard, CollectsTerms};
+ghost use Rattle.indexer.specs.Collected.{CollectsTerms};
 ghost use Rattle.indexer.specs.declared.item.Item.TheVariants as kind;
 
 use crate::terms::{fill_totals, sort_terms};
-use crate::{Document, Index, Item, ItemOp, Shard, Term};
+use crate::{Document, Item, ItemOp};
 use class_laws::Both;
 use delegation::{Delegation, Fault};
 use doc_words::StopSet;
 use execution_definitions::{By, Refusal};
+use inverted_index::{Index, Term};
+use shard::Shard;
 use ss_base::{ObjectId, OutOfMemory};
 use std::alloc::Global;
 use std::sync::Wait;
@@ -146,7 +151,7 @@ fn gather_documents<D: Delegation<Item>, R: Threads + Wait + Copy + Send + Sync 
 // Appends the terms of an item that is a shard.
 fn push_item(alloc: Global, item: &Item, terms: &mut Vec<Term>) -> Result<(), OutOfMemory>
     ensures { (parts : ShardParts) → item.now ≡ kind.Shard parts →
-        OnOk result (AppendsTermsOfShard parts.places terms.old.items terms.new.items) }
+        OnOk result (AppendsTermsOfShard parts.lists terms.old.items terms.new.items) }
 {
     if let Item::Shard(shard) = item {
         shard.push_terms(alloc, terms)?;
@@ -191,10 +196,7 @@ pub fn build<D: Delegation<Item>, R: Threads + Wait + Copy + Send + Sync + 'stat
     requires few { length docs.items ≤ 65536 }
     requires within { AllByRecursion (λ document. vec_len document ≤ 8388608) docs.items }
     ensures index { IfOk result (λ made.
-        made ≡ split_index stop (map (λ document. document.items) docs.items)) }
-    // Under a stop list that stops just these terms, it is the index of that list.
-    ensures stops { IfOk result (λ made. (list : List ℕ) → Stops stop list →
-        made ≡ index (map (λ document. document.items) docs.items) list) }
+        made ≡ index_without (map (λ document. document.items) docs.items) stop) }
 {
     let count = docs.len() as u32;
     make_items(alloc, d, docs, stop)?;

@@ -3,10 +3,10 @@ ghost use Rattle.std.specs.Prelude.{◌≡◌, ◌≤◌, length, IfOk, OnOk, Ma
 ghost use Rattle.indexer.specs.Documents.{whole, split, IsWhole, split_content};
 ghost use Rattle.indexer.specs.Totals.{totals_join, split_totals};
 
-use crate::counted_words::CountedWords;
 use crate::totals::{Totals, add_totals};
 use class_laws::Reducible;
 use doc_words::StopSet;
+use document_terms::CountedWords;
 use ss_base::OutOfMemory;
 use std::alloc::Global;
 use std::marker::Model;
@@ -29,7 +29,7 @@ impl Model for Document {
 
     ghost Value = { Content };
 
-    ghost use Rattle.indexer.specs.KeptDocuments.{content_of, IsKept};
+    ghost use Rattle.indexer.specs.kept.Documents.{content_of, IsKept};
 
     ghost view = { λ document. content_of document.kept };
 
@@ -69,7 +69,7 @@ impl Document {
     }
 
     /// The words of a document that is split.
-    pub(crate) fn words(&self) -> Option<&CountedWords>
+    pub fn words(&self) -> Option<&CountedWords>
         ensures { MatchOption result (IsWhole self.now) (λ kept. self.now ≡ split kept.now.words) }
     {
         match &self.kept {

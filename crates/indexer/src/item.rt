@@ -1,14 +1,14 @@
 // The items of the index, as a class.
 ghost use Rattle.std.specs.Prelude.{◌≡◌, OnOk, IfOk};
 ghost use Rattle.std.specs.Option.{option_copied};
-ghost use Rattle.indexer.specs.Items.{item_after, totals_after};
+ghost use Rattle.indexer.specs.Items.{gathered_content, item_after, totals_after};
 ghost use Rattle.indexer.specs.Totals.{totals_join};
 
 use crate::document::Document;
-use crate::shard::Shard;
 use crate::totals::Totals;
 use class_laws::{Class, Reducible};
 use doc_words::StopSet;
+use shard::Shard;
 use ss_base::OutOfMemory;
 use std::alloc::Global;
 
@@ -32,6 +32,16 @@ pub enum ItemOp {
     Gather { doc: u32 },
 }
 
+// Gathers a document into a shard, unless it isn't split.
+fn gather(shard: &mut Shard, doc: u32, document: &Document) -> Result<(), OutOfMemory>
+    ensures { OnOk result (shard.new ≡ gathered_content shard.old doc document.now) }
+{
+    let Some(words) = document.words() else {
+        return Ok(());
+    };
+    shard.gather(doc, words)
+}
+
 // Applies an operation to an item.
 fn apply_op(
     item: &mut Item,
@@ -49,7 +59,7 @@ fn apply_op(
             document.split(alloc, stop, totals)
         }
         (Item::Shard(shard), ItemOp::Gather { doc }, Some(Item::Doc(document))) => {
-            shard.gather(doc, document)?;
+            gather(shard, doc, document)?;
             totals.join(Totals::unit(alloc))
         }
         _ => totals.join(Totals::unit(alloc)),

@@ -1,25 +1,16 @@
-//! The items of the index: documents, which are split into words, and shards of the terms, into
-//! which documents are gathered.
+//! The items of the index, and the index of documents by delegated calls on them: documents, which are
+//! split into words, and shards of the terms, into which documents are gathered.
 #![tactic(auto)]
 
 mod building;
-mod counted_words;
 mod document;
-mod groups;
-mod index;
 mod item;
-mod numbering;
-mod shard;
-mod shard_of;
 mod terms;
 mod totals;
 
 pub use building::build;
 pub use document::Document;
-pub use index::{Index, Term};
+pub use inverted_index::{Index, Term};
 pub use item::{Item, ItemOp};
 pub use shard::Shard;
 pub use totals::Totals;
-
-#[cfg(test)]
-mod tests;

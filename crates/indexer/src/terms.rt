@@ -1,12 +1,13 @@
 // What makes the terms of all shards those of the index: they are sorted, and get their totals.
 ghost use Rattle.std.specs.Prelude.{◌≡◌, map};
 ghost use Rattle.std.specs.List.Sorted.{IsPermutation, IsStrictlySortedBy};
+ghost use Rattle.index_definitions.specs.Indexes.{texts_of};
 ghost use Rattle.text_table.specs.TextTables.{AreDistinct};
 ghost use Rattle.class_laws.specs.Counts.{text_order};
-ghost use Rattle.indexer.specs.Collected.{texts_of, with_count};
+ghost use Rattle.indexer.specs.Collected.{with_count};
 
-use crate::index::Term;
 use class_laws::CountMap;
+use inverted_index::Term;
 
 /// Sorts terms by the order of their bytes.
 pub(crate) fn sort_terms(terms: &mut Vec<Term>)

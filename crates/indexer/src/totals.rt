@@ -3,8 +3,8 @@ ghost use Rattle.std.specs.Prelude.{◌≡◌, OnOk};
 ghost use Rattle.class_laws.specs.Counts.{counts_join};
 ghost use Rattle.indexer.specs.Totals.{counts_in, totals_of, totals_join};
 
-use crate::counted_words::CountedWords;
 use class_laws::{Both, CountMap, Max, Reducible, WrapSum};
+use document_terms::CountedWords;
 use ss_base::OutOfMemory;
 use std::alloc::Global;
 

@@ -5,7 +5,7 @@ use Rattle.std.proofs.Math.Seq.{take-append_seam, drop-append_seam}
 use Rattle.std.proofs.lemmas.List.{append-nil, take_all}
 use Rattle.std.proofs.lemmas.Grind.{flat_map-append}
 use Rattle.postings.specs.Numbers.{numbers_in, numbers_of, lists_after, lists_of, HoldPostings}
-use Rattle.index_definitions.specs.PostingLists.{ArePositions, last_document}
+use Rattle.index_definitions.specs.PostingLists.{DocumentPositions, PostingList, ArePositions, last_document}
 use Rattle.postings.proofs.PostingListsLemmas.{ListsPostings-append, ListsPostings-of_above}
 
 -- what is skipped doesn't count
@@ -15,7 +15,7 @@ lists_after-drop (suc n) [] = refl
 lists_after-drop (suc n) (x ∷ ns) = lists_after-drop n ns
 
 -- the numbers of documents are read as those documents
-pub lists_of-numbers : (es : List (ℕ × List ℕ)) → lists_of (numbers_of es) ≡ es
+pub lists_of-numbers : (es : PostingList) → lists_of (numbers_of es) ≡ es
 lists_of-numbers [] = refl
 lists_of-numbers (e ∷ es) =
     let rest = numbers_of es in
@@ -30,7 +30,7 @@ lists_of-numbers (e ∷ es) =
 
 -- a document more has its numbers at the end
 numbers_of-append :
-    (es : List (ℕ × List ℕ)) (e : ℕ × List ℕ)
+    (es : PostingList) (e : DocumentPositions)
     → numbers_of (es ++ e ∷ []) ≡ numbers_of es ++ numbers_in e
 numbers_of-append es e =
     flat_map-append numbers_in es (e ∷ [])
@@ -38,7 +38,7 @@ numbers_of-append es e =
 
 -- numbers of a document at the end are read as that document
 pub lists_of-append :
-    (ns : List ℕ) (e : ℕ × List ℕ) → HoldPostings ns
+    (ns : List ℕ) (e : DocumentPositions) → HoldPostings ns
     → lists_of (ns ++ numbers_in e) ≡ lists_of ns ++ e ∷ []
 lists_of-append ns e holds =
     let es = lists_of ns in

@@ -2,10 +2,10 @@
 use Rattle.std.proofs.Common.{ℕ, suc, ◌<◌, ◌≤◌, ◌+◌, List, [], ◌∷◌, ◌++◌, length, get_or, arith}
 use Rattle.index_definitions.specs.PostingLists.{ArePositions, RisesAbove}
 use Rattle.index_definitions.specs.PostingLists.{ListsPostings, ListsPostingsAbove}
-use Rattle.index_definitions.specs.PostingLists.{last_document}
+use Rattle.index_definitions.specs.PostingLists.{DocumentPositions, PostingList, last_document}
 
 ListsPostingsAbove-append :
-    (low : ℕ) (e : ℕ × List ℕ) (es : List (ℕ × List ℕ)) (document : ℕ) (positions : List ℕ)
+    (low : ℕ) (e : DocumentPositions) (es : PostingList) (document : ℕ) (positions : List ℕ)
     → ListsPostingsAbove low (e ∷ es) → last_document (e ∷ es) < document → ArePositions positions
     → ListsPostingsAbove low (e ∷ (es ++ (document, positions) ∷ []))
 ListsPostingsAbove-append low e [] document positions lists above are =
@@ -14,7 +14,7 @@ ListsPostingsAbove-append low e (f ∷ es) document positions lists above are =
     (lists.0, lists.1, ListsPostingsAbove-append e.0 f es document positions lists.2 above are)
 
 pub ListsPostings-append :
-    (es : List (ℕ × List ℕ)) (document : ℕ) (positions : List ℕ)
+    (es : PostingList) (document : ℕ) (positions : List ℕ)
     → ListsPostings es → last_document es < document → ArePositions positions
     → ListsPostings (es ++ (document, positions) ∷ [])
 ListsPostings-append [] document positions lists above are = (above, are, tt)
@@ -22,7 +22,7 @@ ListsPostings-append (e ∷ es) document positions lists above are =
     ListsPostingsAbove-append 0 e es document positions lists above are
 
 pub ListsPostings-of_above :
-    (low : ℕ) (es : List (ℕ × List ℕ)) → ListsPostingsAbove low es → ListsPostings es
+    (low : ℕ) (es : PostingList) → ListsPostingsAbove low es → ListsPostings es
 ListsPostings-of_above low [] lists = tt
 ListsPostings-of_above low (e ∷ es) lists = (omega (arith, lists.0), lists.1, lists.2)
 
@@ -36,7 +36,7 @@ length-RisesAbove-lt bound low (n ∷ ns) below rises all =
     omega (arith, rest, rises.0)
 
 length-ListsPostingsAbove-le :
-    (low : ℕ) (e : ℕ × List ℕ) (es : List (ℕ × List ℕ)) → ListsPostingsAbove low (e ∷ es)
+    (low : ℕ) (e : DocumentPositions) (es : PostingList) → ListsPostingsAbove low (e ∷ es)
     → low + length (e ∷ es) ≤ last_document (e ∷ es)
 length-ListsPostingsAbove-le low e [] lists = omega (arith, lists.0)
 length-ListsPostingsAbove-le low e (f ∷ es) lists =
@@ -45,6 +45,6 @@ length-ListsPostingsAbove-le low e (f ∷ es) lists =
 
 -- documents rise, so that there are no more than the last one's number
 pub length-ListsPostings-le :
-    (es : List (ℕ × List ℕ)) → ListsPostings es → length es ≤ last_document es
+    (es : PostingList) → ListsPostings es → length es ≤ last_document es
 length-ListsPostings-le [] lists = omega arith
 length-ListsPostings-le (e ∷ es) lists = omega (arith, length-ListsPostingsAbove-le 0 e es lists)

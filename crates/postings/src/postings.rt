@@ -20,10 +20,11 @@ pub struct Postings {
 }
 
 impl Model for Postings {
-    ghost use Rattle.std.specs.Prelude.{◌≡◌, ℕ, List, length};
+    ghost use Rattle.std.specs.Prelude.{◌≡◌, length};
+    ghost use Rattle.index_definitions.specs.PostingLists.{PostingList};
     ghost use Rattle.postings.specs.Numbers.{lists_of, HoldPostings};
 
-    ghost Value = { List (ℕ × List ℕ) };
+    ghost Value = { PostingList };
 
     ghost view = { λ postings. lists_of postings.numbers.items };
 

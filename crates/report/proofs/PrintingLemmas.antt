@@ -3,7 +3,7 @@ use Rattle.std.proofs.Common.{◌≡◌, ℕ, ◌<◌, true, false, List, [], �
 use Rattle.std.proofs.Common.{refl, sym, ap, ◌∙◌, arith, append_assoc, append-nil, cond}
 use Rattle.std.specs.Prelude.{◌==◌, codes, decimal}
 use Rattle.std.specs.List.{flat_map, join_with_byte}
-use Rattle.index_definitions.specs.PostingLists.{ListsPostings, ListsPostingsAbove, pairs_of}
+use Rattle.index_definitions.specs.PostingLists.{PostingList, ListsPostings, ListsPostingsAbove, pairs_of}
 use Rattle.index_definitions.specs.IndexText.{document_text, postings_text}
 use Rattle.report.specs.Printing.{separator, lead_text, pairs_text}
 
@@ -46,7 +46,7 @@ pairs_text-document last document (p ∷ ps) rest above some =
 
 -- documents behind another
 pairs_text-others :
-    (last : ℕ) (es : List (ℕ × List ℕ)) → 0 < last → ListsPostingsAbove last es
+    (last : ℕ) (es : PostingList) → 0 < last → ListsPostingsAbove last es
     → pairs_text last (pairs_of es) ≡ flat_map (λ e. 0x3B ∷ document_text e) es
 pairs_text-others last [] some lists = refl
 pairs_text-others last (e ∷ es) some lists =
@@ -57,7 +57,7 @@ pairs_text-others last (e ∷ es) some lists =
     ∙ ap (λ t. 0x3B ∷ (document_text e ++ t)) (pairs_text-others e.0 es before lists.2)
 
 pub pairs_text-postings :
-    (es : List (ℕ × List ℕ)) → ListsPostings es → pairs_text 0 (pairs_of es) ≡ postings_text es
+    (es : PostingList) → ListsPostings es → pairs_text 0 (pairs_of es) ≡ postings_text es
 pairs_text-postings [] lists = refl
 pairs_text-postings (e ∷ es) lists =
     pairs_text-document 0 e.0 e.1 (pairs_of es) lists.0 lists.1.some

@@ -5,7 +5,7 @@ ghost use Rattle.index_definitions.specs.IndexText.{escaped, escaped_byte, posti
 ghost use Rattle.index_definitions.specs.IndexText.{count_line, term_line, text_of_index};
 ghost use Rattle.report.specs.Printing.{lead_text};
 
-use indexer::{Index, Term};
+use inverted_index::{Index, Term};
 use itoa::Buffer;
 use postings::Postings;
 use ss_base::OutOfMemory;

@@ -1,11 +1,11 @@
 // The summary of an index.
 ghost use Rattle.std.specs.Prelude.{◌≡◌, ◌+◌, ◌%◌, ◌^◌, IfOk};
 ghost use Rattle.std.specs.List.{sum_by};
-ghost use Rattle.report.specs.Summary.{sum_of_positions, position_sum, summary_of_index};
+ghost use Rattle.index_definitions.specs.IndexText.{sum_of_positions, position_sum, summary_of_index};
 ghost use Rattle.index_definitions.specs.PostingLists.{pairs_of};
 
 use crate::print::push_count;
-use indexer::{Index, Term};
+use inverted_index::{Index, Term};
 use postings::Postings;
 use ss_base::OutOfMemory;
 use std::alloc::Global;

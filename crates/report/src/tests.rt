@@ -1,6 +1,6 @@
 // What no clause says: that memory is found, and what the texts look like.
 use crate::{print_index, print_summary, push_term};
-use indexer::{Index, Term};
+use inverted_index::{Index, Term};
 use postings::Postings;
 use ss_base::Text;
 use std::alloc::Global;

@@ -8,10 +8,9 @@ use Rattle.std.specs.Option.{option_map_or, is_some}
 use Rattle.std.proofs.lemmas.Option.{slice_get-get_or}
 use Rattle.std.proofs.lemmas.List.{take_more, drop_more, take-append-drop, length-take-le}
 use Rattle.index_definitions.specs.IndexText.{index_text}
-use Rattle.indexer.specs.Builds.{Stops}
+use Rattle.index_definitions.specs.Words.{terms_in}
+use Rattle.index_definitions.specs.Terms.{HaveSameTerms, has_term}
 use Rattle.index_definitions.proofs.WordsLemmas.{terms_in-none}
-use Rattle.std.specs.List.{list_any}
-use Rattle.std.specs.Str.{bytes_eq}
 use Rattle.ss_base.specs.Shelves.{Contents, ReadsWhole}
 use Rattle.ss_top.specs.declared.command.Command.TheVariants.{Index}
 use Rattle.ss_top.specs.declared.status.LimitHit.{LimitHit}
@@ -25,9 +24,9 @@ use Rattle.ss_top.specs.Readings.{IsLonger, IsStopList, AreDocuments, PassFirst,
 use Rattle.ss_top.specs.Runs.{CallsFor, CallsForWhole}
 use Rattle.ss_top.proofs.LimitsLemmas.{first_limit-passed}
 
--- an empty stop list stops no term
-pub Stops-none : Stops [] []
-Stops-none = λ term. sym (ap (λ terms. list_any (bytes_eq term) terms) terms_in-none)
+-- an empty stop list has no terms
+pub HaveSameTerms-none : HaveSameTerms [] (terms_in [])
+HaveSameTerms-none = λ term. sym (ap (λ terms. has_term terms term) terms_in-none)
 
 pub IsStopList-none :
     (contents : Option Contents) (stop : Option (List ℕ))

@@ -4,8 +4,7 @@ use Rattle.std.specs.Prelude.{None, Some, Result, Ok, Err, option_and_then}
 use Rattle.std.specs.declared.option.Option.{Option}
 use Rattle.std.specs.Option.{option_map, option_map_or}
 use Rattle.index_definitions.specs.Index.{index}
-use Rattle.index_definitions.specs.IndexText.{index_text}
-use Rattle.report.specs.Summary.{summary_of_index}
+use Rattle.index_definitions.specs.IndexText.{index_text, summary_of_index}
 use Rattle.execution_definitions.specs.declared.refusal.Refusal.{Refusal}
 use Rattle.script_lang.specs.declared.fault.ScriptFault.{ScriptFault}
 use Rattle.script_lang.specs.Lines.{lines}

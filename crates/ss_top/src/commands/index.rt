@@ -2,7 +2,8 @@
 ghost use Rattle.std.specs.Prelude.{◌≡◌, ◌≢◌, ◌≤◌, ◌<◌, ℕ, List, None, Some, map, length, min};
 ghost use Rattle.std.specs.Prelude.{vec_len, IfOk, IsSome};
 ghost use Rattle.std.specs.declared.option.Option.{Option};
-ghost use Rattle.indexer.specs.Builds.{Stops};
+ghost use Rattle.index_definitions.specs.Words.{terms_in};
+ghost use Rattle.index_definitions.specs.Terms.{HaveSameTerms};
 ghost use Rattle.ss_base.specs.Faults.{Rose};
 ghost use Rattle.ss_base.specs.Shelves.{ReadsWhole};
 ghost use Rattle.ss_top.specs.Answers.{over_limit};
@@ -33,8 +34,8 @@ fn read_stop_set<L: Shelf>(
 ) -> Result<StopSet, Stop>
     ensures never_falls { L.faults shelf.old ≤ L.faults shelf.new }
     ensures contents { L.contents shelf.new ≡ L.contents shelf.old }
-    ensures stops { IfOk result (λ set. (list : List ℕ) × Stops set list × (length list ≤ 8388608)
-        × IsStopList (L.contents shelf.old) stop.now list) }
+    ensures stops { IfOk result (λ set. (list : List ℕ) × HaveSameTerms set (terms_in list)
+        × (length list ≤ 8388608) × IsStopList (L.contents shelf.old) stop.now list) }
     ensures read_fault { (which : Which) → result ≡ Err (Stop.ReadFault which) →
         (which ≡ Which.Stop) × IsSome stop.now × Rose (L.faults shelf.old) (L.faults shelf.new) }
     ensures limit { (hit : LimitHit) → result ≡ Err (Stop.Limit hit) →

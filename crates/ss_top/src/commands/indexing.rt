@@ -1,7 +1,8 @@
 // The index of documents, on a runtime of its own.
 ghost use Rattle.std.specs.Prelude.{◌≡◌, ◌≤◌, ℕ, List, None, map, length, IfOk};
+ghost use Rattle.index_definitions.specs.Words.{terms_in};
+ghost use Rattle.index_definitions.specs.Terms.{HaveSameTerms};
 ghost use Rattle.index_definitions.specs.Index.{index};
-ghost use Rattle.indexer.specs.Builds.{Stops};
 ghost use Rattle.ss_top.specs.Limits.{names_limit, first_limit};
 
 use delegation::{Delegation, Plain};
@@ -23,7 +24,7 @@ where
     R: Threads + Wait + Copy + Send + Sync + 'static,
     requires few { length documents.items ≤ names_limit }
     requires within { first_limit (map (λ document. document.items) documents.items) ≡ None }
-    ensures { IfOk result (λ made. (list : List ℕ) → Stops stop list →
+    ensures { IfOk result (λ made. (list : List ℕ) → HaveSameTerms stop (terms_in list) →
         made ≡ index (map (λ document. document.items) documents.items) list) }
 {
     let mut plain = Plain::new(alloc)?;

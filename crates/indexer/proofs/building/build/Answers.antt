@@ -1,16 +1,15 @@
 use Rattle.std.proofs.Common.{rules, ◌≡◌, ℕ, Vec, Global, length, sym, ap, ◌∙◌, subst}
 use Rattle.std.proofs.lemmas.List.{length-map}
-use Rattle.indexer.specs.Shards.{empty_shard}
+use Rattle.shard.specs.Shards.{empty_shard}
 use Rattle.indexer.specs.Totals.{no_totals, totals_of}
 use Rattle.indexer.specs.Stages.{whole_at, split_at, words_to, gathered_to, HasItems}
 use Rattle.indexer.proofs.BuildingLemmas.{bytes_of}
 use Rattle.indexer.proofs.BuiltLemmas.{built_from}
-use Rattle.indexer.proofs.SplitPostingsLemmas.{split_index-stops}
 use Rattle.indexer.proofs.WordCountLemmas.{AreWithin-vectors}
 use Rattle.indexer.proofs.building.build.Goals as goal
 
-pub returns-clause-index : goal.returns-clause-index
-returns-clause-index g c =
+pub returns : goal.returns
+returns g c =
     let stop = c.args.stop in
     let docs = bytes_of c.args.docs.items in
     let n = c.len-count.result in
@@ -29,13 +28,10 @@ returns-clause-index g c =
     let totals : c.in_ok-words.field-0.now ≡ totals_of (words_to stop docs n) =
     (rw c.in_ok-words.ensures at c.total.ensures.total)
     ∙ ap (λ state. state.total) c.in_ok-terms.ensures.state ∙ gathered.total in
+    let built =
     built_from stop docs n all (rw (sym count) c.requires.few)
     (AreWithin-vectors c.args.docs.items c.requires.within)
     c.in_ok-terms.terms.items c.fill_totals.new.terms.items c.sort_terms.new.terms.items
-    c.in_ok-words.field-0.now collected totals c.fill_totals.ensures c.sort_terms.ensures.permutation
-    c.sort_terms.ensures.sorted
-
-pub returns-clause-stops : goal.returns-clause-stops
-returns-clause-stops g c = λ list same.
-    returns-clause-index g c
-    ∙ split_index-stops c.args.stop (bytes_of c.args.docs.items) list same
+    c.in_ok-words.field-0.now collected totals c.fill_totals.ensures
+    c.sort_terms.ensures.permutation c.sort_terms.ensures.sorted in
+    record { index = built }

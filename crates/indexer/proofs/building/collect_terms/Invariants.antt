@@ -1,6 +1,6 @@
 use Rattle.std.proofs.Common.{◌≡◌, ℕ, ◌+◌, ◌*◌, ◌≤◌, List, false}
 use Rattle.indexer.specs.Documents.{Content}
-use Rattle.indexer.specs.Shards.{ShardParts}
+use Rattle.shard.specs.Shards.{ShardParts}
 use Rattle.indexer.specs.Totals.{Totals}
 use Rattle.indexer.specs.Collected.{CollectsTerms}
 use Rattle.indexer.specs.Stages.{HasItems, HasMarks}

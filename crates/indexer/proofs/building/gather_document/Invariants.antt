@@ -1,6 +1,7 @@
 use Rattle.std.proofs.Common.{◌≡◌, ℕ, ◌+◌, ◌≤◌, List}
-use Rattle.indexer.specs.Documents.{Word, Content}
-use Rattle.indexer.specs.Shards.{ShardParts}
+use Rattle.index_definitions.specs.Words.{Word}
+use Rattle.indexer.specs.Documents.{Content}
+use Rattle.shard.specs.Shards.{ShardParts}
 use Rattle.indexer.specs.Totals.{totals_of}
 use Rattle.indexer.specs.Stages.{HasItems, IsGathering}
 use Rattle.indexer.proofs.BuildingLemmas.{gathered_at}

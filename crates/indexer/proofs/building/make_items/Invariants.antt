@@ -1,5 +1,5 @@
 use Rattle.std.proofs.Common.{◌≡◌, ◌+◌, ◌≤◌, ◌++◌, map, length, false}
-use Rattle.indexer.specs.Shards.{empty_shard}
+use Rattle.shard.specs.Shards.{empty_shard}
 use Rattle.indexer.specs.Totals.{no_totals}
 use Rattle.indexer.specs.Stages.{whole_at, HasItems, HasMarks}
 use Rattle.indexer.proofs.building.make_items.Given as goal

@@ -1,5 +1,5 @@
 use Rattle.std.proofs.Common.{◌≡◌, ℕ, ◌+◌, ◌≤◌, List, length}
-use Rattle.indexer.specs.Shards.{empty_shard}
+use Rattle.shard.specs.Shards.{empty_shard}
 use Rattle.indexer.specs.Totals.{no_totals, totals_of}
 use Rattle.indexer.specs.Stages.{whole_at, split_at, words_to, HasItems, IsSplitting}
 use Rattle.indexer.proofs.building.split_documents.Given as goal

@@ -3,10 +3,10 @@ use Rattle.std.proofs.lemmas.List.Edits.{map_over_more}
 use Rattle.index_definitions.specs.Index.{TermRecord}
 use Rattle.class_laws.specs.Counts.{count_of}
 use Rattle.indexer.specs.Collected.{with_count}
-use Rattle.indexer.specs.Shards.{Places}
+use Rattle.index_definitions.specs.PostingLists.{PostingList}
 use Rattle.indexer.proofs.terms.fill_totals.Goals as goal
 
-abbrev with_total : List ℕ → Places → ℕ → TermRecord
+abbrev with_total : List ℕ → PostingList → ℕ → TermRecord
 with_total text places total = record { text = text; total = total; postings = places }
 
 pub loop-term-preserved : goal.loop-term-preserved

@@ -5,7 +5,7 @@ use Rattle.std.specs.Ordering.{is_lt}
 use Rattle.index_definitions.specs.Index.{TermRecord}
 use Rattle.class_laws.specs.Counts.{text_order}
 use Rattle.class_laws.specs.Laws.Counts.{text_order_total}
-use Rattle.indexer.specs.Collected.{texts_of}
+use Rattle.index_definitions.specs.Indexes.{texts_of}
 use Rattle.indexer.proofs.CollectedLemmas.{texts_rise, texts_of-permutation}
 use Rattle.indexer.proofs.CollectedLemmas.{AreDistinct-permutation}
 use Rattle.indexer.proofs.terms.sort_terms.Goals as goal

@@ -1,6 +1,6 @@
 use Rattle.std.proofs.Common.{◌≡◌, ◌%◌, ◌^◌, take}
 use Rattle.std.specs.List.{sum_by}
-use Rattle.report.specs.Summary.{sum_of_positions}
+use Rattle.index_definitions.specs.IndexText.{sum_of_positions}
 use Rattle.report.proofs.summary.sum_positions.Given as goal
 
 -- the terms so far

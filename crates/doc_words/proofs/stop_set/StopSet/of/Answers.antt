@@ -1,7 +1,7 @@
 use Rattle.std.proofs.Common.{◌∙◌}
 use Rattle.index_definitions.specs.Words.{terms_in}
 use Rattle.index_definitions.proofs.TermsLemmas.{rising_terms-unique}
-use Rattle.doc_words.proofs.StopSetLemmas.{list_any-moved, list_any-none_left}
+use Rattle.doc_words.proofs.StopSetLemmas.{has_term-moved, has_term-none_left}
 use Rattle.doc_words.proofs.stop_set.StopSet.of.Goals as goal
 
 pub loop-set-preserved : goal.loop-set-preserved
@@ -10,7 +10,7 @@ loop-set-preserved c =
     record {
       rises = c.in_ok-add.ensures.rises;
       members = λ q.
-          list_any-moved q _ _ c.loop-set.set _ _ _ c.as_str-in-loop-set.ensures.value taken
+          has_term-moved q _ _ c.loop-set.set _ _ _ c.as_str-in-loop-set.ensures.value taken
           (c.in_ok-add.ensures.terms q)
           ∙ c.loop-set.invariant.members q;
     }
@@ -18,7 +18,7 @@ loop-set-preserved c =
 pub returns-clause-stops : goal.returns-clause-stops
 returns-clause-stops c =
     let none = rw c.if-branch.false at c.in_ok-next_into.ensures in
-    λ term. list_any-none_left term c.loop-set.set _ none ∙ c.loop-set.invariant.members term
+    λ term. has_term-none_left term c.loop-set.set _ none ∙ c.loop-set.invariant.members term
 
 pub returns-clause-terms : goal.returns-clause-terms
 returns-clause-terms c =

@@ -1,6 +1,0 @@
-use Rattle.std.proofs.Common.{◌≡◌, take}
-use Rattle.indexer.proofs.shard.Shard.copy.Given as goal
-
--- the lists so far are copied
-abbrev pub invariant-loop-list : goal.invariant-loop-list
-invariant-loop-list l = l.lists.items ≡ take l.list-index l.list-items

@@ -1,0 +1,2 @@
+-- What a document keeps: its bytes, or its words by number.
+pub mod Documents
