@@ -1,4 +1,6 @@
 pub mod GreatestLemmas
+pub mod GroupingLemmas
+pub mod IndexesLemmas
 pub mod ListsLemmas
 pub mod NumberedLemmas
 pub mod PostingsLemmas

@@ -82,6 +82,62 @@ rising_terms-unique all ts rising members =
     sym (keys-entries ts)
     ∙ ap (map (λ e. e.0)) (sym (entries-from_sorted text_cmp (map entry_of ts) order)) ∙ ap keys same
 
+-- ---- the terms, each once and in order
+
+first_true : (a b : Bool) → T (a && b) → T a
+first_true true b both = tt
+first_true false b both = both
+
+second_true : (a b : Bool) → T (a && b) → T b
+second_true true b both = both
+second_true false b both = absurd both
+
+less : (o : Ordering) → T (is_lt o) → o ≡ Less
+less Less is = refl
+less Equal is = absurd is
+less Greater is = absurd is
+
+below-all :
+    (t : List ℕ) (es : List (List ℕ × Unit {0})) → T (below_all text_cmp t es)
+    → AllByRecursion (λ u. text_cmp t u ≡ Less) (map (λ e. e.0) es)
+below-all t [] below = tt
+below-all t (e ∷ es) below =
+    (less (text_cmp t e.0) (first_true _ _ below), below-all t es (second_true _ _ below))
+
+keys-rise :
+    (es : List (List ℕ × Unit {0})) → T (is_sorted text_cmp es)
+    → IsStrictlySortedBy text_cmp (map (λ e. e.0) es)
+unfolding IsStrictlySortedBy
+keys-rise [] sorted = tt
+keys-rise (e ∷ es) sorted =
+    (below-all e.0 es (first_true _ _ sorted), keys-rise es (second_true _ _ sorted))
+
+pub rising_terms-rise : (ts : List (List ℕ)) → IsStrictlySortedBy text_cmp (rising_terms ts)
+rising_terms-rise ts =
+    let made = from_entries {R = text_cmp} (map entry_of ts) in
+    keys-rise (entries made) (entries_sorted made)
+
+find-key :
+    (q : List ℕ) (es : List (List ℕ × Unit {0}))
+    → is_some (find text_cmp q es) ≡ has_term (map (λ e. e.0) es) q
+find-key q [] = refl
+find-key q (e ∷ es) =
+    ap (λ b. is_some (cond b (Some e.1) (find text_cmp q es))) (is_eq-slice_cmp q e.0)
+    ∙ elim (bytes_eq q e.0) as (λ b.
+    is_some (cond b (Some e.1) (find text_cmp q es)) ≡ (b || has_term (map (λ f. f.0) es) q))
+    [ true ↦ refl | false ↦ find-key q es ]
+
+is_some-cond : (b : Bool) → is_some (cond b (Some (tt {0})) None) ≡ b
+is_some-cond true = refl
+is_some-cond false = refl
+
+pub HaveSameTerms-rising : (ts : List (List ℕ)) → HaveSameTerms (rising_terms ts) ts
+HaveSameTerms-rising ts q =
+    let made = from_entries {R = text_cmp} (map entry_of ts) in
+    sym (ap is_some (get-entries made q) ∙ find-key q (entries made))
+    ∙ ap is_some (get-from_entries nat_list_cmp_total (map entry_of ts) q ∙ find-any q ts)
+    ∙ is_some-cond (has_term ts q)
+
 -- ---- the longest term
 
 -- the characters of a term

@@ -41,3 +41,14 @@ pub record IsIndex (index : IndexRecord) : Type 0 where
   pub each : All (IsTermRecord index.documents) index.terms
   pub words_are : index.words ≡ length (postings_in index)
   pub longest_is : index.longest ≡ longest_of (texts_of index.terms)
+
+-- the index of documents is one
+abbrev pub IndexIsWellFormed : Type 0
+IndexIsWellFormed =
+    (documents stopped : List (List ℕ)) → IsIndex (index_without documents stopped)
+
+-- it says just the postings of the documents, each once
+abbrev pub IndexSaysItsPostings : Type 0
+IndexSaysItsPostings =
+    (documents stopped : List (List ℕ))
+    → IsPermutation (postings documents stopped) (postings_in (index_without documents stopped))
