@@ -1,8 +1,8 @@
 -- What an accepted call needs of the marks.
-use Rattle.std.proofs.Common.{◌≡◌, ℕ, ◌^◌, ◌<◌, Bool, true, false, not, Option, Some, None, List, length, refl, arith}
+use Rattle.std.proofs.Common.{◌≡◌, ℕ, ◌^◌, ◌<◌, Bool, true, false, not, Option, Some, None, List, length, refl, sym, ◌∙◌, subst, arith}
 use Rattle.std.specs.Prelude.{Result, Ok, Err, OnOk, nat_le}
 use Rattle.std.proofs.lemmas.Bool.Decides.{nat_tests}
-use Rattle.std.proofs.lemmas.Option.{slice_get_within}
+use Rattle.std.proofs.lemmas.Option.{slice_get_within, same_Some}
 use Rattle.execution_definitions.specs.declared.refusal.Refusal.{Refusal}
 use Rattle.execution_definitions.specs.declared.refusal.Refusal.TheVariants.{NotIsolating, TooManyObjects, TooManyCalls}
 use Rattle.execution_definitions.specs.Shapes.{delegate, write}
@@ -38,6 +38,11 @@ pub is_open_then : (opened : Bool) → refuse_if (not opened) NotIsolating ≡ N
 is_open_then true none = refl
 is_open_then false none = absurd cc
 
+-- what isn't refused doesn't hold
+refused_not : (test : Bool) (refusal : Refusal) → refuse_if test refusal ≡ None → test ≡ false
+refused_not true refusal none = absurd cc
+refused_not false refusal none = refl
+
 -- there is room for a call where the limit isn't reached
 call_room : (calls : ℕ) → too_many_calls calls ≡ None → calls < 2 ^ 60
 call_room calls none = by_test (nat_le (2 ^ 60) calls) refl none where
@@ -68,6 +73,9 @@ delegable marked object own reading accepted = by_mark (mark_at marked object) r
       record {
         isolating = is_open_then marked.is_open opened.0;
         known = slice_get_within marked.objects object mark some;
+        unshared = λ same is. subst (λ m. m.shared ≡ false)
+            (same_Some mark same (sym some ∙ is))
+            (refused_not mark.shared _ unshared.0);
         read_known = has_mark marked reading read.0;
         room = call_room marked.calls free.1;
       }

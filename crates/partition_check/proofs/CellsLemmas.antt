@@ -54,14 +54,17 @@ within_cells epochs is_open cells marks i same inside =
     omega arith
 
 -- the mark of a cell in the open epoch
-pub slice_get-cell : (epochs : ℕ) (is_open : Bool) (cells : List Cell) (i : ℕ) (cell : Cell) →
-    is_open ≡ true → i < length cells → cell ≡ get_or cells i cell →
-    slice_get (map (mark_in epochs is_open) cells) i ≡ Some (mark_in epochs true cell)
-slice_get-cell epochs is_open cells i cell opened inside at =
+pub mark_of_cell : (epochs : ℕ) (is_open : Bool) (cells : List Cell) (marks : List Mark) (i : ℕ)
+    (cell : Cell) → map (mark_in epochs is_open) cells ≡ marks → is_open ≡ true →
+    i < length marks → cell ≡ get_or cells i cell →
+    slice_get marks i ≡ Some (mark_in epochs true cell)
+mark_of_cell epochs is_open cells marks i cell same opened inside at =
+    let known = within_cells epochs is_open cells marks i same inside in
     rw (
+      ← same,
       opened,
       slice_get-map (mark_in epochs true) cells i,
-      slice_get_read cells (length cells) i cell refl inside at,
+      slice_get_read cells (length cells) i cell refl known at,
     ) refl
 
 -- a cell written at a place changes the mark at that place

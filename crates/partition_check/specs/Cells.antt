@@ -2,7 +2,7 @@
 --
 -- A cell keeps the epoch in which something was last delegated to its object, or read it. So a new epoch clears every cell at once, by
 -- its number alone.
-use Rattle.std.specs.Prelude.{ℕ, ◌≤◌, Bool, not, ◌&&◌, ◌==◌, Some, None, if◌then◌else◌, is_some}
+use Rattle.std.specs.Prelude.{ℕ, ◌≤◌, Bool, ◌&&◌, ◌||◌, ◌==◌, Some, None, if◌then◌else◌, is_some}
 use Rattle.partition_check.specs.declared.cell.Cell.{Cell}
 use Rattle.partition_check.specs.declared.mark.Mark.{Mark}
 use Rattle.partition_check.specs.MarkedAfter.{serializer_making}
@@ -12,8 +12,8 @@ abbrev pub mark_in : ℕ → Bool → Cell → Mark
 mark_in epochs is_open cell =
     let is_stamped = is_open && (cell.epoch == epochs) in record {
       serializer = serializer_making cell.by cell.set.0;
-      set = if (is_stamped && cell.was_delegated) then (Some cell.set) else None;
-      is_held = is_stamped && (cell.was_delegated && not cell.was_freed);
+      set = if (is_stamped && (cell.is_held || cell.was_freed)) then (Some cell.set) else None;
+      is_held = is_stamped && cell.is_held;
       shared = is_some cell.by && (is_stamped && cell.was_read);
     }
 

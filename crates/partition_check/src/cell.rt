@@ -20,9 +20,9 @@ use ss_base::{ObjectId, SetId};
 pub struct Cell {
     /// What the object's maker asked for. None of a read-only object.
     pub by: Option<By>,
-    /// Operations were delegated to the object.
-    pub was_delegated: bool,
-    /// The program context wrote or got the object after the last of them.
+    /// The object is held to the set of its last delegation.
+    pub is_held: bool,
+    /// It was held, and a write or a get freed it.
     pub was_freed: bool,
     /// Operations read the object, which is writable.
     pub was_read: bool,
@@ -44,7 +44,7 @@ pub fn fresh_cell(by: Option<By>, sequence_objects: u64) -> Cell
 {
     Cell {
         by,
-        was_delegated: false,
+        is_held: false,
         was_freed: false,
         was_read: false,
         epoch: 0,
@@ -70,7 +70,7 @@ impl Cell {
         Mark {
             serializer: serializer_in(self.by, self.set.0),
             set: self.last_set(epochs, is_open),
-            is_held: self.is_held(epochs, is_open),
+            is_held: self.is_stamped(epochs, is_open) && self.is_held,
             shared: self.is_shared(epochs, is_open),
         }
     }
@@ -78,24 +78,18 @@ impl Cell {
     fn last_set(&self, epochs: u64, is_open: bool) -> Option<SetId>
         ensures { result ≡ (mark_in epochs is_open self.now).set }
     {
-        if self.is_stamped(epochs, is_open) && self.was_delegated {
+        if self.is_stamped(epochs, is_open) && (self.is_held || self.was_freed) {
             Some(self.set)
         } else {
             None
         }
     }
 
-    fn is_held(&self, epochs: u64, is_open: bool) -> bool
-        ensures { result ≡ (mark_in epochs is_open self.now).is_held }
-    {
-        self.is_stamped(epochs, is_open) && self.was_delegated && !self.was_freed
-    }
-
     /// The set that an object with that mark is held to.
     pub fn held(&self, epochs: u64, is_open: bool) -> Option<SetId>
         ensures { option_map (λ set. set.0) result ≡ held_in (mark_in epochs is_open self.now) }
     {
-        if self.is_held(epochs, is_open) {
+        if self.is_stamped(epochs, is_open) && self.is_held {
             Some(self.set)
         } else {
             None
@@ -128,16 +122,18 @@ impl Cell {
         }
     }
 
-    /// Holds the object to the set of an operation in the open epoch.
+    /// Holds the object to the set of an operation in the open epoch, in which it isn't shared.
     pub fn hold(&mut self, epochs: u64, set: SetId)
+        requires unshared { (mark_in epochs true self.old).shared ≡ false }
         ensures mark { (object own : ℕ) →
             set.0 ≡ set_under (mark_in epochs true self.old).serializer object own →
             mark_in epochs true self.new ≡ with_set object own (mark_in epochs true self.old) }
         ensures stamped { IsStamped epochs self.new }
     {
-        self.stamp(epochs);
-        self.was_delegated = true;
+        self.is_held = true;
         self.was_freed = false;
+        self.was_read = false;
+        self.epoch = epochs;
         self.set = set;
     }
 
@@ -146,10 +142,16 @@ impl Cell {
         ensures mark { mark_in epochs true self.new ≡ with_reader (mark_in epochs true self.old) }
         ensures stamped { IsStamped epochs self.old → IsStamped epochs self.new }
     {
-        if self.by.is_some() {
-            self.stamp(epochs);
-            self.was_read = true;
+        if self.by.is_none() {
+            return;
         }
+        // What was done in an earlier epoch is forgotten.
+        if self.epoch != epochs {
+            self.is_held = false;
+            self.was_freed = false;
+        }
+        self.was_read = true;
+        self.epoch = epochs;
     }
 
     /// Frees the object of the set that it is held to, if it is. It needs no stamp: what an older
@@ -159,20 +161,9 @@ impl Cell {
             mark_in epochs is_open self.new ≡ freed_mark (mark_in epochs is_open self.old) }
         ensures stamped { (epochs : ℕ) → IsStamped epochs self.old → IsStamped epochs self.new }
     {
-        self.was_freed = true;
-    }
-
-    // Stamps the cell with the open epoch. What was done in an earlier one is forgotten.
-    fn stamp(&mut self, epochs: u64)
-        ensures mark { mark_in epochs true self.new ≡ mark_in epochs true self.old }
-        ensures by { self.new.by ≡ self.old.by }
-        ensures epoch { self.new.epoch ≡ epochs }
-    {
-        if self.epoch != epochs {
-            self.epoch = epochs;
-            self.was_delegated = false;
-            self.was_freed = false;
-            self.was_read = false;
+        if self.is_held {
+            self.is_held = false;
+            self.was_freed = true;
         }
     }
 }

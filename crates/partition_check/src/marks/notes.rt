@@ -9,7 +9,7 @@ ghost use Rattle.partition_check.specs.Marked.{mark_at, set_marked};
 ghost use Rattle.partition_check.specs.Judged.{judged};
 ghost use Rattle.partition_check.specs.MarkedAfter.{marked_after, marked_noted, HasMark};
 ghost use Rattle.partition_check.specs.MarkedAfter.{changed_at, with_set, with_reader, freed_mark, with_reader_at, changed_where};
-ghost use Rattle.partition_check.specs.Delegable.{IsSetFor, IsDelegable};
+ghost use Rattle.partition_check.specs.Delegable.{IsUnshared, IsSetFor, IsDelegable};
 ghost use Rattle.partition_check.specs.Represents.{Represents, RepresentsWith, IsNotedWith};
 ghost use Rattle.execution_definitions.specs.Meanings.{number_given};
 ghost use Rattle.partition_check.specs.Answers.{Answers, AnswersRule};
@@ -97,6 +97,7 @@ impl Marks {
     fn hold(&mut self, o: ObjectId, set: SetId)
         requires known { o.0 < length self.old.objects }
         requires isolating { self.old.is_open ≡ true }
+        requires unshared { IsUnshared self.old o.0 }
         ensures { (own : ℕ) → set.0 ≡ set_marked (mark_at self.old o.0) o.0 own → self.new ≡
             record self.old { objects = changed_at o.0 (with_set o.0 own) self.old.objects } }
     {
