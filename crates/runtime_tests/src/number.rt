@@ -40,15 +40,18 @@ fn read_number(reading: Option<&Number>) -> u32
 }
 
 impl Class for Number {
-    ghost use Rattle.runtime_tests.specs.Numbers.{number_step};
+    ghost use Rattle.std.specs.Prelude.{refl};
+    ghost use Rattle.runtime_tests.specs.Numbers.{number_meaning};
 
     type Op = Op;
 
     type Red = WrapSum;
 
-    ghost step = { number_step };
+    ghost meaning = { number_meaning };
 
-    ghost own = { λ op. op.set };
+    ghost same_unit = { refl };
+
+    ghost same_join = { refl };
 
     fn apply(
         &mut self,

@@ -1,9 +1,7 @@
 // The table gone through with each runtime, and what doesn't fit a table.
 ghost use Rattle.std.specs.Prelude.{[]};
-ghost use Rattle.class_laws.specs.Numbers.{wrap_sum_unit, wrap_sum_join};
-ghost use Rattle.delegation.specs.Meanings.{meaning};
 ghost use Rattle.delegation.specs.Runtimes.{IsAfter};
-ghost use Rattle.runtime_tests.specs.Numbers.{number_step};
+ghost use Rattle.runtime_tests.specs.Numbers.{number_meaning};
 
 use crate::cases::{Answer, CASES, Case, Step, refused};
 use crate::number::{Act, Number, Op};
@@ -164,7 +162,7 @@ fn runs_a_list<D: Delegation<Number>, R: Threads + Wait + Abort + Copy + Send + 
     alloc: Global,
     d: &mut D,
 ) -> Result<(), Fail>
-    requires { IsAfter (meaning number_step (λ op. op.set) wrap_sum_unit wrap_sum_join)
+    requires { IsAfter number_meaning
         (D.seen d.old) [] }
 {
     let add = |set: u64| -> Call<Number> {

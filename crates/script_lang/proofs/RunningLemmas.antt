@@ -17,25 +17,25 @@ use Rattle.execution_definitions.specs.Soundness.{first_break, first_refusal}
 use Rattle.execution_definitions.proofs.EpochsLemmas.{isolating-within, isolating-begin}
 use Rattle.execution_definitions.proofs.EpochsLemmas.{isolating-end}
 use Rattle.execution_definitions.proofs.SoundnessLemmas.{first_break-at, first_refusal-at}
-use Rattle.delegation.specs.declared.call.Call.TheVariants as call
+use Rattle.execution_definitions.specs.declared.call.Call.TheVariants as call
 use Rattle.delegation.specs.declared.call.Fault.{Fault}
 use Rattle.delegation.specs.declared.call.Fault.TheVariants.{Refused}
-use Rattle.delegation.specs.Meanings.{shape_of, shapes_of}
-use Rattle.delegation.specs.Sequential.{State, initial_state, state_after, sequential_state}
-use Rattle.delegation.specs.Sequential.{reply_of, replies_from, sequential_replies}
+use Rattle.execution_definitions.specs.Meanings.{shape_of, shapes_of}
+use Rattle.execution_definitions.specs.Sequential.{State, initial_state, state_after, sequential_state}
+use Rattle.execution_definitions.specs.Sequential.{reply_of, replies_from, sequential_replies}
 use Rattle.delegation.specs.Runtimes.{RuntimeView, IsAfter}
 use Rattle.delegation.specs.Answers.{FailsList}
-use Rattle.delegation.specs.Programs.{front_before, sound_front}
+use Rattle.execution_definitions.specs.Programs.{front_before, sound_front}
 use Rattle.script_lang.specs.declared.word32.Word32.{Word32}
 use Rattle.script_lang.specs.declared.command.Command.{Command}
 use Rattle.script_lang.specs.declared.command.Command.TheVariants.{Make, MakeFixed, Begin, End}
 use Rattle.script_lang.specs.declared.command.Command.TheVariants.{Delegate, Write, Get, Total}
 use Rattle.script_lang.specs.declared.command.Placed.{Placed}
-use Rattle.script_lang.specs.Acts.{own_set}
+use Rattle.script_lang.specs.Acts.{own_set, script_meaning}
 use Rattle.script_lang.specs.Listings.{Listing}
 use Rattle.script_lang.specs.ScriptCalls.{ScriptCall, call_of, calls_of, listed_calls}
 use Rattle.script_lang.specs.ScriptCalls.{ends_within_epoch, ended, is_open_after}
-use Rattle.script_lang.specs.ScriptAnswers.{ShownRecord, script_meaning, shown_line, shown_lines}
+use Rattle.script_lang.specs.ScriptAnswers.{ShownRecord, shown_line, shown_lines}
 use Rattle.script_lang.specs.ScriptAnswers.{line_at, stop_at, shown_text, stopped_at, shown_of}
 use Rattle.script_lang.proofs.ScriptCallsLemmas.{ended-open, ended-closed}
 

@@ -7,11 +7,11 @@ use Rattle.execution_definitions.specs.Shapes.{end}
 use Rattle.execution_definitions.specs.Refusals.{breaks, first_of, refuse_if}
 use Rattle.execution_definitions.specs.declared.refusal.Refusal.TheVariants.{NotIsolating}
 use Rattle.execution_definitions.specs.declared.refusal.Refusal.TheVariants.{TooManyCalls}
-use Rattle.delegation.specs.declared.call.Call.TheVariants as call
-use Rattle.delegation.specs.Meanings.{shape_of, shapes_of}
+use Rattle.execution_definitions.specs.declared.call.Call.TheVariants as call
+use Rattle.execution_definitions.specs.Meanings.{shape_of, shapes_of}
 use Rattle.script_lang.specs.Acts.{own_set}
 use Rattle.script_lang.specs.ScriptCalls.{ScriptCall, ends_within_epoch, ended}
-use Rattle.script_lang.specs.ScriptAnswers.{script_meaning}
+use Rattle.script_lang.specs.Acts.{script_meaning}
 
 pub ended-open : (calls : List ScriptCall) → ends_within_epoch calls ≡ true
     → ended calls ≡ calls ++ call.End ∷ []

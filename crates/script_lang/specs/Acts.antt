@@ -2,6 +2,8 @@
 use Rattle.std.specs.Prelude.{ℕ, ◌+◌, ◌*◌, ◌%◌, ◌^◌, Some, None}
 use Rattle.std.specs.declared.option.Option.{Option}
 use Rattle.class_laws.specs.declared.numbers.WrapSum.{WrapSum}
+use Rattle.class_laws.specs.Numbers.{wrap_sum_unit, wrap_sum_join}
+use Rattle.execution_definitions.specs.Meanings.{Meaning}
 use Rattle.script_lang.specs.declared.word32.Act.{Act}
 use Rattle.script_lang.specs.declared.word32.Act.TheVariants.{Add, Mul, Set, Give, Mix}
 use Rattle.script_lang.specs.declared.word32.Deed.{Deed}
@@ -38,3 +40,12 @@ step v deed read = (
 -- the set that a deed names for itself
 abbrev pub own_set : Deed → ℕ
 own_set deed = deed.set
+
+-- the meaning of the values of scripts
+abbrev pub script_meaning : Meaning Word32 Deed WrapSum
+script_meaning = record {
+  step = step;
+  own = own_set;
+  unit = wrap_sum_unit;
+  join = wrap_sum_join;
+}

@@ -7,19 +7,17 @@ use Rattle.std.specs.Prelude.{ℕ, Option, Some, None, Result, Ok, Err, List, []
 use Rattle.std.specs.Prelude.{codes, decimal, slice_get}
 use Rattle.std.specs.Option.{option_map_or, unwrap_or}
 use Rattle.class_laws.specs.declared.numbers.WrapSum.{WrapSum}
-use Rattle.class_laws.specs.Numbers.{wrap_sum_unit, wrap_sum_join}
 use Rattle.execution_definitions.specs.declared.refusal.Refusal.{Refusal}
 use Rattle.execution_definitions.specs.Soundness.{first_break, first_refusal}
-use Rattle.delegation.specs.declared.call.Call.TheVariants as call
-use Rattle.delegation.specs.declared.call.Reply.{Reply}
-use Rattle.delegation.specs.declared.call.Reply.TheVariants as reply
-use Rattle.delegation.specs.Meanings.{Meaning, meaning, shapes_of}
-use Rattle.delegation.specs.Sequential.{sequential_replies}
-use Rattle.delegation.specs.Programs.{sound_front}
+use Rattle.execution_definitions.specs.declared.call.Call.TheVariants as call
+use Rattle.execution_definitions.specs.declared.call.Reply.{Reply}
+use Rattle.execution_definitions.specs.declared.call.Reply.TheVariants as reply
+use Rattle.execution_definitions.specs.Meanings.{shapes_of}
+use Rattle.execution_definitions.specs.Sequential.{sequential_replies}
+use Rattle.execution_definitions.specs.Programs.{sound_front}
 use Rattle.script_lang.specs.declared.fault.ScriptFault.{ScriptFault}
 use Rattle.script_lang.specs.declared.word32.Word32.{Word32}
-use Rattle.script_lang.specs.declared.word32.Deed.{Deed}
-use Rattle.script_lang.specs.Acts.{step, own_set}
+use Rattle.script_lang.specs.Acts.{script_meaning}
 use Rattle.script_lang.specs.Listings.{Listing, listing_of}
 use Rattle.script_lang.specs.ScriptCalls.{ScriptCall, calls_of}
 
@@ -28,13 +26,9 @@ pub record ShownRecord : Type 0 where
   pub text : List ℕ
   pub stopped : Option (ℕ × Refusal)
 
--- the meaning of the values of scripts
-abbrev pub script_meaning : Meaning Word32 Deed WrapSum
-script_meaning = meaning step own_set wrap_sum_unit wrap_sum_join
-
 -- what a call of a script is answered
 abbrev pub ScriptReply : Type 0
-ScriptReply = Reply Word32 Deed WrapSum
+ScriptReply = Reply Word32 WrapSum
 
 -- NAME VALUE
 unfoldable pub value_line : List ℕ → ℕ → List ℕ

@@ -2,9 +2,9 @@
 use Rattle.std.specs.Prelude.{Bool, true, false, List, [], ◌∷◌, ◌++◌, map, if◌then◌else◌}
 use Rattle.class_laws.specs.declared.numbers.WrapSum.{WrapSum}
 use Rattle.execution_definitions.specs.Epochs.{isolating}
-use Rattle.delegation.specs.declared.call.Call.{Call}
-use Rattle.delegation.specs.declared.call.Call.TheVariants as call
-use Rattle.delegation.specs.Meanings.{shape_of}
+use Rattle.execution_definitions.specs.declared.call.Call.{Call}
+use Rattle.execution_definitions.specs.declared.call.Call.TheVariants as call
+use Rattle.execution_definitions.specs.Meanings.{shape_of}
 use Rattle.script_lang.specs.declared.word32.Word32.{Word32}
 use Rattle.script_lang.specs.declared.word32.Deed.{Deed}
 use Rattle.script_lang.specs.declared.command.Command.{Command}
@@ -16,7 +16,7 @@ use Rattle.script_lang.specs.Listings.{Listing}
 
 -- a call on the values of scripts
 abbrev pub ScriptCall : Type 0
-ScriptCall = Call Word32 Deed WrapSum
+ScriptCall = Call Word32 Deed
 
 -- the call of a command
 abbrev pub call_of : Command → ScriptCall

@@ -1,12 +1,13 @@
 // A script on a runtime.
 ghost use Rattle.std.specs.Prelude.{◌≡◌, [], ◌∷◌, ◌++◌, Some, Err, IfOk, OnOk, decimal};
 ghost use Rattle.delegation.specs.declared.call.Fault.TheVariants.{Refused};
-ghost use Rattle.delegation.specs.Sequential.{reply_of};
+ghost use Rattle.execution_definitions.specs.Sequential.{reply_of};
 ghost use Rattle.delegation.specs.Runtimes.{IsAfter};
-ghost use Rattle.delegation.specs.Answers.{Follows};
-ghost use Rattle.delegation.specs.Programs.{sound_front};
+ghost use Rattle.delegation.specs.Answers.{AnswersEachList};
+ghost use Rattle.execution_definitions.specs.Programs.{sound_front};
 ghost use Rattle.script_lang.specs.ScriptCalls.{call_of, calls_of, is_open_after};
-ghost use Rattle.script_lang.specs.ScriptAnswers.{script_meaning, value_line, total_line};
+ghost use Rattle.script_lang.specs.Acts.{script_meaning};
+ghost use Rattle.script_lang.specs.ScriptAnswers.{value_line, total_line};
 ghost use Rattle.script_lang.specs.ScriptAnswers.{shown_line, shown_of};
 
 use crate::command::Command;
@@ -75,7 +76,7 @@ fn run_command<D: Delegation<Word32>, R: Threads + Wait + Copy + Send + Sync + '
     command: Command,
     text: &mut Vec<u8>,
 ) -> Result<(), Fault>
-    ensures follows { Follows script_meaning (D.seen d.old) (D.seen d.new)
+    ensures follows { AnswersEachList script_meaning (D.seen d.old) (D.seen d.new)
         (call_of command) result }
     ensures text { OnOk result (text.new.items ≡ text.old.items
         ++ shown_line script.now.names (call_of command) (reply_of script_meaning

@@ -71,12 +71,15 @@ impl Class for Word32 {
 
     type Red = WrapSum;
 
+    ghost use Rattle.std.specs.Prelude.{refl};
     ghost use Rattle.class_laws.specs.Numbers.{wrap_sum_join};
-    ghost use Rattle.script_lang.specs.Acts.{step, own_set};
+    ghost use Rattle.script_lang.specs.Acts.{step, script_meaning};
 
-    ghost step = { step };
+    ghost meaning = { script_meaning };
 
-    ghost own = { own_set };
+    ghost same_unit = { refl };
+
+    ghost same_join = { refl };
 
     fn apply(
         &mut self,
