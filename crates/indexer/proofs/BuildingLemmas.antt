@@ -1,6 +1,6 @@
 -- The calls that build an index, one at a time.
 use Rattle.std.proofs.Common.{◌≡◌, ◌≢◌, ℕ, suc, ◌+◌, ◌^◌, ◌<◌, ◌≤◌, List, [], ◌∷◌, ◌++◌, map, length}
-use Rattle.std.proofs.Common.{Some, None, take, get_or, cond, nat_lt, true, false, refl, sym, ap, ap₂}
+use Rattle.std.proofs.Common.{Option, Some, None, take, get_or, cond, nat_lt, true, false, refl, sym, ap, ap₂}
 use Rattle.std.proofs.Common.{◌∙◌, subst, ⊎_elim, inr, append-nil, flat_map, arith, Vec, Global}
 use Rattle.std.specs.Prelude.{slice_get}
 use Rattle.std.proofs.Math.Seq.{get_or-append_seam}
@@ -15,9 +15,10 @@ use Rattle.execution_definitions.specs.Shapes.{make, delegate}
 use Rattle.ss_base.specs.declared.ids.ObjectId.{ObjectId}
 use Rattle.partition_check.specs.Judged.{judged}
 use Rattle.partition_check.specs.Marked.{Marked}
-use Rattle.partition_check.specs.MarkedAfter.{with_call_counted}
-use Rattle.delegation.specs.declared.call.Call.TheVariants as call
-use Rattle.delegation.specs.Meanings.{shape_of}
+use Rattle.partition_check.specs.MarkedAfter.{marked_noted, freed_mark}
+use Rattle.partition_check.proofs.ChangedLemmas.{length-changed_where}
+use Rattle.execution_definitions.specs.declared.call.Call.TheVariants as call
+use Rattle.execution_definitions.specs.Meanings.{shape_of}
 use Rattle.delegation.specs.Answers.{Accepts}
 use Rattle.indexer.specs.declared.item.Item.{Item}
 use Rattle.indexer.specs.declared.item.Item.TheVariants.{Doc, Shard}
@@ -29,14 +30,14 @@ use Rattle.indexer.specs.Documents.{Content, whole, split}
 use Rattle.indexer.specs.Totals.{Totals, no_totals, totals_of}
 use Rattle.shard.specs.Shards.{ShardParts, empty_shard}
 use Rattle.indexer.specs.Items.{own_set, gathered_content}
-use Rattle.indexer.specs.Builds.{item_meaning}
+use Rattle.indexer.specs.Items.{item_meaning}
 use Rattle.indexer.specs.Stages.{whole_at, split_at, words_to, gathered_to, HasItems, HasMarks}
 use Rattle.indexer.specs.Stages.{IsSplitting, IsGathering}
 use Rattle.indexer.proofs.StagesLemmas.{ItemCall, ItemState, ItemView, items-document, items-shard, items-split}
 use Rattle.indexer.proofs.StagesLemmas.{items-gather}
 use Rattle.indexer.proofs.JoinedLemmas.{totals_of-none}
 use Rattle.indexer.proofs.MarkedLemmas.{marks-made, marks-begin, marks-end, marks-delegate}
-use Rattle.indexer.proofs.MarkedLemmas.{allows-delegate}
+use Rattle.indexer.proofs.MarkedLemmas.{allows-delegate, writable-freed}
 
 -- the bytes of documents
 abbrev pub bytes_of : List (Vec ℕ Global) → List (List ℕ)
@@ -340,12 +341,14 @@ gathered_all old new stopped documents content totals count all same has =
 
 -- ---- the shards are looked at
 
--- a call that no mark shows is counted
-pub counted-marks : (old new : Marked) (objects calls : ℕ) → HasMarks old objects calls false →
-    new ≡ with_call_counted old → HasMarks new objects (calls + 1) false
-counted-marks old new objects calls has is = rw is (record {
-  count = has.count;
-  writable = has.writable;
+-- a look is counted, and frees the object looked at
+pub counted-marks : (old new : Marked) (given : Option ℕ) (objects calls : ℕ) →
+    HasMarks old objects calls false → new ≡ marked_noted old given →
+    HasMarks new objects (calls + 1) false
+counted-marks old new given objects calls has is = rw is (record {
+  count = length-changed_where freed_mark given old.objects ∙ has.count;
+  writable = λ object above within.
+      writable-freed given old.objects object (has.writable object above within);
   calls_are = ap (λ n. n + 1) has.calls_are;
   open_is = has.open_is;
 })

@@ -9,18 +9,17 @@ use Rattle.std.proofs.lemmas.Bool.Decides.{nat_tests}
 use Rattle.std.proofs.lemmas.List.{length-append, length-map}
 use Rattle.std.proofs.lemmas.Option.{slice_get-map, slice_get-get_or}
 use Rattle.ss_base.specs.Ids.{object_id, set_id}
-use Rattle.ss_base.specs.declared.ids.SetId.{SetId}
 use Rattle.execution_definitions.specs.declared.refusal.Refusal.TheVariants.{TwoSets}
 use Rattle.execution_definitions.specs.declared.serializer.By.{By}
 use Rattle.execution_definitions.specs.declared.serializer.Serializer.{Serializer}
 use Rattle.execution_definitions.specs.Shapes.{make, make_fixed, begin, delegate, end, total, get}
 use Rattle.execution_definitions.specs.Sets.{set_by, set_under}
-use Rattle.execution_definitions.specs.Refusals.{refuse_if}
+use Rattle.execution_definitions.specs.Refusals.{refuse_if, two_sets_if, private_if}
 use Rattle.partition_check.specs.declared.mark.Mark.{Mark}
-use Rattle.partition_check.specs.Marked.{Marked, mark_at}
-use Rattle.partition_check.specs.Judged.{judged, two_sets_in, held_in}
+use Rattle.partition_check.specs.Marked.{Marked, mark_at, held_in}
+use Rattle.partition_check.specs.Judged.{judged}
 use Rattle.partition_check.specs.MarkedAfter.{marked_after, fresh_mark, cleared_mark, changed_at}
-use Rattle.partition_check.specs.MarkedAfter.{with_set, with_reader}
+use Rattle.partition_check.specs.MarkedAfter.{with_set, with_reader, freed_mark, changed_where}
 use Rattle.partition_check.specs.Represents.{Represents}
 use Rattle.indexer.specs.Stages.{IsWritable, HasMarks, IsPrivate, IsReadable, MayDelegate}
 use Rattle.indexer.proofs.StagesLemmas.{front, last, below}
@@ -181,6 +180,14 @@ writable-at change keeps marks i object writable = changed_all (λ _ mark. IsWri
     change marks i object
     (λ _. writable-changed change keeps (slice_get marks object) writable) (λ _. writable)
 
+-- freeing an object, where there is one, leaves serializers as they are
+pub writable-freed : (given : Option ℕ) (marks : List Mark) (object : ℕ) →
+    IsWritable (slice_get marks object) →
+    IsWritable (slice_get (changed_where given freed_mark marks) object)
+writable-freed None marks object writable = writable
+writable-freed (Some i) marks object writable =
+    writable-at freed_mark (λ mark. refl) marks i object writable
+
 -- a mark that is there and private, or readable
 abbrev IsPrivateAt : ℕ → Option Mark → Type 0
 IsPrivateAt object mark = (it : Mark) × (mark ≡ Some it) × IsPrivate object it
@@ -210,8 +217,8 @@ module _ (old : Marked) (objects first past first_read past_read : ℕ)
           serializer = was.2.serializer;
           writable = was.2.writable;
           unshared = was.2.unshared;
-          set = inr (ap (λ s. Some (set_id (set_under s object 0))) was.2.writable
-              ∙ ap (λ n. Some (set_id (set_by was.2.serializer n 0))) same);
+          set = inr (ap (λ s. Some (set_under s object 0)) was.2.writable
+              ∙ ap (λ n. Some (set_by was.2.serializer n 0)) same);
         },
       ))
       (λ _. may.writes k f p)
@@ -257,19 +264,19 @@ other_number i j other = ⊎_elim
     (λ same. absurd (other (grind (arith, nat_tests)))) (λ differ. differ) (cases_Bool (i == j))
 
 -- an object that is private to its own set isn't held to another
-own_set_only : (object set : ℕ) (at : Option SetId) →
-    (at ≡ None) ⊎ (at ≡ Some (set_id set)) → two_sets_in object at set ≡ None
+own_set_only : (object set : ℕ) (at : Option ℕ) → (at ≡ None) ⊎ (at ≡ Some set) →
+    two_sets_if object at set ≡ None
 own_set_only object set at is = ⊎_elim
-    (λ none. ap (λ h. two_sets_in object h set) none)
+    (λ none. ap (λ h. two_sets_if object h set) none)
     (λ some.
-    ap (λ h. two_sets_in object h set) some
+    ap (λ h. two_sets_if object h set) some
     ∙ ap (λ same. refuse_if (not same) (TwoSets (object_id object) (set_id set) (set_id set)))
     (same_number set))
     is
 
-not_held : (read : ℕ) (serializer : Option Serializer) (at : Option SetId) →
+not_held : (read : ℕ) (serializer : Option Serializer) (at : Option ℕ) →
     (serializer ≡ None) ⊎ (at ≡ None) →
-    cond (is_none serializer) None (held_in read at) ≡ None
+    cond (is_none serializer) None (private_if read at) ≡ None
 not_held read None at readable = refl
 not_held read (Some serializer) None readable = refl
 not_held read (Some serializer) (Some set) readable =
@@ -322,9 +329,9 @@ module _ (old : Marked) (objects first past first_read past_read : ℕ)
         look.1,
         may.open_is,
         write.2.writable,
-        own_set_only object (set_by write.2.serializer object 0) write.0.set write.2.set,
+        own_set_only object (set_by write.2.serializer object 0) (held_in write.0) write.2.set,
         write.2.unshared,
         other_number read object (λ same. other (sym same)),
-        not_held read look.0.serializer look.0.set look.2,
+        not_held read look.0.serializer (held_in look.0) look.2,
         too_few old.calls (2 ^ 60) few_calls,
       ) refl

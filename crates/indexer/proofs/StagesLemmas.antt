@@ -11,13 +11,13 @@ use Rattle.ss_base.specs.declared.text.OutOfMemory.{OutOfMemory}
 use Rattle.execution_definitions.specs.declared.refusal.Refusal.{Refusal}
 use Rattle.execution_definitions.specs.declared.serializer.By.TheVariants as by
 use Rattle.partition_check.specs.Judged.{judged}
-use Rattle.delegation.specs.declared.call.Call.{Call}
-use Rattle.delegation.specs.declared.call.Call.TheVariants as call
-use Rattle.delegation.specs.declared.call.Reply.{Reply}
+use Rattle.execution_definitions.specs.declared.call.Call.{Call}
+use Rattle.execution_definitions.specs.declared.call.Call.TheVariants as call
+use Rattle.execution_definitions.specs.declared.call.Reply.{Reply}
 use Rattle.delegation.specs.declared.call.Fault.{Fault}
 use Rattle.delegation.specs.declared.call.Fault.TheVariants.{Refused}
-use Rattle.delegation.specs.Meanings.{shape_of}
-use Rattle.delegation.specs.Sequential.{State, state_after}
+use Rattle.execution_definitions.specs.Meanings.{shape_of}
+use Rattle.execution_definitions.specs.Sequential.{State, state_after}
 use Rattle.delegation.specs.Runtimes.{RuntimeView, IsAfter}
 use Rattle.delegation.specs.Answers.{Answered, Accepts, Refuses}
 use Rattle.indexer.specs.declared.item.Item.{Item}
@@ -31,12 +31,12 @@ use Rattle.indexer.specs.Totals.{Totals, no_totals, totals_of, totals_join}
 use Rattle.indexer.proofs.JoinedLemmas.{totals_of-append, totals_of-nothing_more}
 use Rattle.shard.specs.Shards.{ShardParts}
 use Rattle.indexer.specs.Items.{own_set, gathered_content}
-use Rattle.indexer.specs.Builds.{item_meaning}
+use Rattle.indexer.specs.Items.{item_meaning}
 use Rattle.indexer.specs.Stages.{HasItems}
 
 -- a call of a runtime of items
 abbrev pub ItemCall : Type 0
-ItemCall = Call Item ItemOp Totals
+ItemCall = Call Item ItemOp
 
 -- what is seen of a runtime of items
 abbrev pub ItemView : Type 0
@@ -80,7 +80,7 @@ length-set (first ∷ xs) (suc i) x = ap suc (length-set xs i x)
 -- ---- answers
 
 -- a call that the marks allow isn't refused
-pub no_refusal : {T : Type 0} (to_reply : T → Reply Item ItemOp Totals) (old new : ItemView)
+pub no_refusal : {T : Type 0} (to_reply : T → Reply Item Totals) (old new : ItemView)
     (made : ItemCall) (answer : Result T Fault) →
     Answered item_meaning to_reply old new made answer →
     judged old.marks (shape_of own_set made) ≡ None →
@@ -92,7 +92,7 @@ no_refusal to_reply old new made answer answered allowed refusal is =
     absurd cc
 
 -- an accepted call
-pub accepts : {T : Type 0} (to_reply : T → Reply Item ItemOp Totals) (old new : ItemView)
+pub accepts : {T : Type 0} (to_reply : T → Reply Item Totals) (old new : ItemView)
     (made : ItemCall) (answer : Result T Fault) (value : T) →
     Answered item_meaning to_reply old new made answer → answer ≡ Ok value →
     Accepts item_meaning old new made
@@ -100,7 +100,7 @@ accepts to_reply old new made answer value answered is =
     (subst (Answered item_meaning to_reply old new made) is answered).0
 
 -- what an accepted call leads to holds after Ok
-pub on_accepted : {T : Type 0} (to_reply : T → Reply Item ItemOp Totals) (old new : ItemView)
+pub on_accepted : {T : Type 0} (to_reply : T → Reply Item Totals) (old new : ItemView)
     (made : ItemCall) (answer : Result T Fault) (result : Result T OutOfMemory) (P : Type 0) →
     Answered item_meaning to_reply old new made answer →
     IfOk result (λ value. answer ≡ Ok value) →

@@ -4,9 +4,10 @@
 -- contributed.
 use Rattle.std.specs.Prelude.{ℕ, Some}
 use Rattle.std.specs.declared.option.Option.{Option}
+use Rattle.execution_definitions.specs.Meanings.{Meaning}
 use Rattle.shard.specs.Shards.{ShardParts, gathered_last}
 use Rattle.indexer.specs.Documents.{Content, whole, split, split_content}
-use Rattle.indexer.specs.Totals.{Totals, no_totals, split_totals}
+use Rattle.indexer.specs.Totals.{Totals, no_totals, totals_join, split_totals}
 use Rattle.indexer.specs.declared.item.Item.{Item}
 use Rattle.indexer.specs.declared.item.Item.TheVariants.{Doc, Shard, Stop}
 use Rattle.indexer.specs.declared.item.ItemOp.{ItemOp}
@@ -36,3 +37,7 @@ step item op read = (item_after item op read, totals_after item op read)
 -- the set that an operation names for itself
 abbrev pub own_set : ItemOp → ℕ
 own_set op = 0
+
+-- the meaning of the items of an index
+abbrev pub item_meaning : Meaning Item ItemOp Totals
+item_meaning = record { step = step; own = own_set; unit = no_totals; join = totals_join }

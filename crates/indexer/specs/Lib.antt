@@ -1,7 +1,6 @@
 pub mod Documents
 pub mod Totals
 pub mod Items
-pub mod Builds
 pub mod Stages
 pub mod Collected
 pub mod kept

@@ -6,12 +6,11 @@ use Rattle.std.specs.Prelude.{◌≡◌, ℕ, zero, suc, ◌+◌, ◌<◌, ◌�
 use Rattle.std.specs.Prelude.{Option, Some, None, IsSome, List, [], length, take, slice_get}
 use Rattle.std.specs.Prelude.{if◌then◌else◌}
 use Rattle.std.specs.List.{slice_index_or, flat_map}
-use Rattle.ss_base.specs.Ids.{set_id}
 use Rattle.execution_definitions.specs.declared.serializer.Serializer.{Serializer}
 use Rattle.execution_definitions.specs.Sets.{set_by}
 use Rattle.partition_check.specs.declared.mark.Mark.{Mark}
-use Rattle.partition_check.specs.Marked.{Marked, mark_at}
-use Rattle.delegation.specs.Sequential.{State}
+use Rattle.partition_check.specs.Marked.{Marked, mark_at, held_in}
+use Rattle.execution_definitions.specs.Sequential.{State}
 use Rattle.index_definitions.specs.Words.{Word}
 use Rattle.index_definitions.specs.Postings.{counted_words}
 use Rattle.shard.specs.Shards.{ShardParts, empty_shard}
@@ -55,11 +54,11 @@ pub record IsPrivate (object : ℕ) (mark : Mark) : Type 0 where
   pub serializer : Serializer
   pub writable : mark.serializer ≡ Some serializer
   pub unshared : mark.shared ≡ false
-  pub set : (mark.set ≡ None) ⊎ (mark.set ≡ Some (set_id (set_by serializer object 0)))
+  pub set : (held_in mark ≡ None) ⊎ (held_in mark ≡ Some (set_by serializer object 0))
 
 -- in this epoch the object may be read
 abbrev pub IsReadable : Mark → Type 0
-IsReadable mark = (mark.serializer ≡ None) ⊎ (mark.set ≡ None)
+IsReadable mark = (mark.serializer ≡ None) ⊎ (held_in mark ≡ None)
 
 -- in the open epoch operations can be delegated to the objects of one range, reading those of
 -- another

@@ -8,7 +8,7 @@ ghost use Rattle.delegation.specs.Runtimes.{IsAfter};
 ghost use Rattle.delegation.specs.declared.call.Fault.TheVariants.{Refused};
 ghost use Rattle.shard.specs.Shards.{empty_shard, ShardParts};
 ghost use Rattle.shard.specs.ShardTerms.{AppendsTermsOfShard};
-ghost use Rattle.indexer.specs.Builds.{item_meaning};
+ghost use Rattle.indexer.specs.Items.{item_meaning};
 ghost use Rattle.indexer.specs.Documents.{Content};
 ghost use Rattle.indexer.specs.Items.{gathered_content};
 ghost use Rattle.indexer.specs.Totals.{Totals, no_totals, totals_of};

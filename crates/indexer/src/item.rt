@@ -81,11 +81,14 @@ impl Class for Item {
 
     type Red = Totals;
 
-    ghost use Rattle.indexer.specs.Items.{step, own_set};
+    ghost use Rattle.std.specs.Prelude.{refl};
+    ghost use Rattle.indexer.specs.Items.{item_meaning};
 
-    ghost step = { step };
+    ghost meaning = { item_meaning };
 
-    ghost own = { own_set };
+    ghost same_unit = { refl };
+
+    ghost same_join = { refl };
 
     fn apply(
         &mut self,

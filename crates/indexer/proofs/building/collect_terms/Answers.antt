@@ -1,5 +1,5 @@
-use Rattle.std.proofs.Common.{rules, ◌≡◌, ◌+◌, ◌*◌, sym, ◌∙◌, subst, arith}
-use Rattle.delegation.specs.declared.call.Reply.TheVariants as reply
+use Rattle.std.proofs.Common.{rules, ◌≡◌, ◌+◌, ◌*◌, Some, sym, ◌∙◌, subst, arith}
+use Rattle.execution_definitions.specs.declared.call.Reply.TheVariants as reply
 use Rattle.indexer.specs.Collected.{CollectsTerms}
 use Rattle.indexer.proofs.StagesLemmas.{accepts}
 use Rattle.indexer.proofs.BuildingLemmas.{counted-marks, is_shard}
@@ -25,7 +25,8 @@ loop-number-preserved g c =
           c.args.count c.loop-number.number content parts totals c.in_ok-item.item.now at.state
           within has (rw c.in_ok-item.ensures at c.get.ensures.value)));
       state = got.state ∙ at.state;
-      marks = rw (sym calls) (counted-marks _ _ (17 + c.args.count) _ at.marks got.marks);
+      marks = rw (sym calls) (counted-marks _ _
+          (Some (1 + c.args.count + c.loop-number.number)) (17 + c.args.count) _ at.marks got.marks);
     }
 
 pub returns-clause-terms : goal.returns-clause-terms

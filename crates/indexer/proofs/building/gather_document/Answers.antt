@@ -1,5 +1,5 @@
 use Rattle.std.proofs.Common.{rules, ◌+◌, ap, ◌∙◌, arith}
-use Rattle.delegation.specs.declared.call.Reply.TheVariants as reply
+use Rattle.execution_definitions.specs.declared.call.Reply.TheVariants as reply
 use Rattle.indexer.proofs.StagesLemmas.{accepts, no_refusal}
 use Rattle.indexer.proofs.BuildingLemmas.{none_gathered, one_gathered, all_gathered}
 use Rattle.indexer.proofs.BuildingLemmas.{allows-gather, still-gathering, more-calls}

@@ -1,6 +1,6 @@
 use Rattle.std.proofs.Common.{rules, ◌≡◌, ◌+◌, ◌*◌, sym, ap, ◌∙◌, arith}
-use Rattle.delegation.specs.declared.call.Reply.TheVariants as reply
-use Rattle.delegation.specs.declared.call.Call.TheVariants as call
+use Rattle.execution_definitions.specs.declared.call.Reply.TheVariants as reply
+use Rattle.execution_definitions.specs.declared.call.Call.TheVariants as call
 use Rattle.indexer.specs.Stages.{gathered_to}
 use Rattle.indexer.proofs.StagesLemmas.{accepts, on_accepted}
 use Rattle.indexer.proofs.BuildingLemmas.{began-gathering, began-calls, ended-gathering}

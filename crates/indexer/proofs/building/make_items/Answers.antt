@@ -1,7 +1,7 @@
 use Rattle.std.proofs.Common.{rules, ◌≡◌, ◌+◌, [], ◌∷◌, ◌++◌, length, refl, arith}
 use Rattle.std.proofs.Common.{append_assoc, length-append}
 use Rattle.execution_definitions.specs.declared.serializer.By.TheVariants as by
-use Rattle.delegation.specs.declared.call.Reply.TheVariants as reply
+use Rattle.execution_definitions.specs.declared.call.Reply.TheVariants as reply
 use Rattle.indexer.proofs.StagesLemmas.{accepts}
 use Rattle.indexer.proofs.BuildingLemmas.{made-document, made-shard, made-marks}
 use Rattle.indexer.proofs.building.make_items.Goals as goal

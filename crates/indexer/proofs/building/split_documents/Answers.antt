@@ -1,6 +1,6 @@
 use Rattle.std.proofs.Common.{rules, ◌≡◌, ◌+◌, ◌*◌, sym, ap, ◌∙◌, arith}
-use Rattle.delegation.specs.declared.call.Reply.TheVariants as reply
-use Rattle.delegation.specs.declared.call.Call.TheVariants as call
+use Rattle.execution_definitions.specs.declared.call.Reply.TheVariants as reply
+use Rattle.execution_definitions.specs.declared.call.Call.TheVariants as call
 use Rattle.indexer.proofs.StagesLemmas.{accepts, no_refusal, on_accepted}
 use Rattle.indexer.proofs.BuildingLemmas.{none_split, one_split, began-splitting, began-calls}
 use Rattle.indexer.proofs.BuildingLemmas.{allows-split, still-splitting, more-calls}
