@@ -162,8 +162,7 @@ fn runs_a_list<D: Delegation<Number>, R: Threads + Wait + Abort + Copy + Send + 
     alloc: Global,
     d: &mut D,
 ) -> Result<(), Fail>
-    requires { IsAfter number_meaning
-        (D.seen d.old) [] }
+    requires { IsAfter number_meaning (D.seen d.old) [] }
 {
     let add = |set: u64| -> Call<Number> {
         Call::Delegate {
