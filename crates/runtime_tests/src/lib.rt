@@ -9,5 +9,7 @@ mod cases;
 mod number;
 #[cfg(test)]
 mod tests;
+#[cfg(test)]
+mod texts;
 
 pub use number::{Act, Number, Op};
