@@ -8,7 +8,7 @@ use std::alloc::Global;
 use std::marker::Model;
 
 // Where a text stands in the string.
-#[derive(Clone, Copy)]
+#[derive(Clone, Copy, Debug)]
 struct Span {
     start: u32,
     end: u32,
@@ -25,7 +25,7 @@ fn offset(place: usize) -> Result<u32, OutOfMemory>
 /// Texts one after another in one string, and numbered from 0. Contracts see the list of them.
 //
 // What `drop_last` and a failed `push` leave in the string belongs to no text.
-#[derive(Drop)]
+#[derive(Drop, Debug)]
 pub struct TextList {
     bytes: String,
     spans: Vec<Span>,
