@@ -1,4 +1,4 @@
-pub mod CommandsLemmas
+pub mod GrammarLemmas
 pub mod ListingsLemmas
 pub mod NamesLemmas
 pub mod RunningLemmas

@@ -1,93 +1,17 @@
--- What one name more changes, and that a name is a text.
-use Rattle.std.proofs.Common.{◌≡◌, ℕ, zero, suc, ◌+◌, ◌<◌, Bool, true, false, cond, ◌&&◌}
-use Rattle.std.proofs.Common.{List, [], ◌∷◌, ◌++◌}
-use Rattle.std.proofs.Common.{length, Option, Some, None, Result, Ok, Err}
-use Rattle.std.proofs.Common.{MatchResult, IsOk, OnOk, is_err}
-use Rattle.std.proofs.Common.{refl, sym, ◌∙◌, ap, arith, lit<, nat_le}
-use Rattle.std.specs.Borrow.{Bor}
-use Rattle.std.specs.BTreeMap.{BTreeMap, UpdatesBy}
-use Rattle.std.specs.Cmp.Lexicographic.{slice_cmp}
-use Rattle.std.specs.List.{position_from, list_all}
-use Rattle.std.specs.Ordering.{nat_cmp}
-use Rattle.std.specs.Str.{bytes_eq, IsAscii, IsUtf8}
+-- A name is a text, and only names have numbers.
+use Rattle.std.proofs.Common.{◌≡◌, ℕ, zero, suc, ◌<◌, Bool, true, false, ◌&&◌}
+use Rattle.std.proofs.Common.{List, [], ◌∷◌, ◌++◌, length, None, Result, Ok, Err, MatchResult, IsOk}
+use Rattle.std.proofs.Common.{refl, sym, ◌∙◌, ap, ap₂, subst, arith, lit<, nat_le}
 use Rattle.std.specs.Char.{is_ascii_alphabetic}
+use Rattle.std.specs.List.{All, list_all, slice_get}
+use Rattle.std.specs.Str.{IsAscii, IsUtf8}
 use Rattle.std.proofs.lemmas.Bool.{false≢true}
 use Rattle.std.proofs.lemmas.Bool.Decides.{nat_tests}
-use Rattle.std.proofs.lemmas.Map.Text.{btree_map_updates_str}
-use Rattle.std.proofs.lemmas.Slice.Eq.{bytes_eq-Decides}
+use Rattle.std.proofs.lemmas.Option.{slice_get_within, get_or_from_slice_get}
 use Rattle.std.proofs.lemmas.Str.{IsUtf8-from_ascii}
-use Rattle.script_lang.specs.Names.{number_of, AreNumbersOf}
+use Rattle.text_table.specs.TextTables.{number_of, with_text}
+use Rattle.text_table.proofs.TextTablesLemmas.{number_of-none, with_text-new}
 use Rattle.script_lang.specs.Tokens.{is_name_byte, is_name}
-
--- ---- the place of a name in a longer list
-
-first_some : Option ℕ → Option ℕ → Option ℕ
-first_some (Some n) o = Some n
-first_some None o = o
-
-position_from-push : (t : List ℕ → Bool) (i : ℕ) (xs : List (List ℕ)) (y : List ℕ)
-    → position_from t i (xs ++ y ∷ [])
-    ≡ first_some (position_from t i xs) (cond (t y) (Some (i + length xs)) None)
-unfolding first_some
-position_from-push t i [] y = ap (λ n. cond (t y) (Some n) None) (omega arith)
-position_from-push t i (x ∷ xs) y =
-    elim (t x) as (λ b. cond b (Some i) (position_from t (i + 1) (xs ++ y ∷ []))
-    ≡ first_some (cond b (Some i) (position_from t (i + 1) xs))
-    (cond (t y) (Some (i + length (x ∷ xs))) None)) [
-      | true ↦ refl
-      | false ↦ position_from-push t (i + 1) xs y
-          ∙ ap (λ n. first_some (position_from t (i + 1) xs) (cond (t y) (Some n) None))
-          (omega arith)
-    ]
-
-first_some-none : (o : Option ℕ) → first_some o None ≡ o
-unfolding first_some
-first_some-none None = refl
-first_some-none (Some n) = refl
-
-same_bytes : (x : List ℕ) → bytes_eq x x ≡ true
-same_bytes x = (bytes_eq-Decides x x).1 refl
-
-other_way : (x y : List ℕ) → bytes_eq x y ≡ false → bytes_eq y x ≡ false
-other_way x y h =
-    elim (bytes_eq y x) as (λ b. bytes_eq y x ≡ b → b ≡ false) [
-      | true ↦ λ same.
-          sym (sym h ∙ (bytes_eq-Decides x y).1 (sym ((bytes_eq-Decides y x).0 same)))
-      | false ↦ λ _. refl
-    ] refl
-
--- the number of each name, after a name that wasn't made
-pub number_of-push : (names : List (List ℕ)) (name q : List ℕ) → number_of names name ≡ None
-    → cond (bytes_eq name q) (Some (length names)) (number_of names q)
-    ≡ number_of (names ++ name ∷ []) q
-unfolding first_some
-number_of-push names name q fresh =
-    elim (bytes_eq name q) as (λ b. bytes_eq name q ≡ b
-    → cond b (Some (length names)) (number_of names q) ≡ number_of (names ++ name ∷ []) q) [
-      | true ↦ λ same.
-          let at_name : Some (length names) ≡ number_of (names ++ name ∷ []) name =
-          sym (position_from-push (bytes_eq name) 0 names name
-          ∙ ap (λ o. first_some o (cond (bytes_eq name name) (Some (0 + length names)) None)) fresh
-          ∙ ap (λ b. cond b (Some (0 + length names)) None) (same_bytes name)
-          ∙ ap Some (omega arith)) in
-          at_name ∙ ap (number_of (names ++ name ∷ [])) ((bytes_eq-Decides name q).0 same)
-      | false ↦ λ differ.
-          sym (position_from-push (bytes_eq q) 0 names name
-          ∙ ap (λ b. first_some (number_of names q) (cond b (Some (0 + length names)) None))
-          (other_way name q differ)
-          ∙ first_some-none (number_of names q))
-    ] refl
-
--- the numbers, after the next was inserted at a name that wasn't made
-pub are_numbers-push : (names : List (List ℕ)) (name : List ℕ) (m n : BTreeMap (Bor (List ℕ)) ℕ)
-    → number_of names name ≡ None → AreNumbersOf m.entries names
-    → UpdatesBy (λ x y. slice_cmp nat_cmp x.now y.now) (λ k. slice_cmp nat_cmp name k.now) m n
-    (Some (length names))
-    → AreNumbersOf n.entries (names ++ name ∷ [])
-are_numbers-push names name m n fresh numbers updates q =
-    btree_map_updates_str name m n (Some (length names)) updates q
-    ∙ ap (cond (bytes_eq name q) (Some (length names))) (numbers q)
-    ∙ number_of-push names name q fresh
 
 -- ---- a name is ASCII, so it is a text
 
@@ -132,7 +56,19 @@ pub ok_of_text : {T E : Type 0} (P : T → Type 0) (Q : Type 0) (R : E → Type 
 ok_of_text P Q R (Ok x) h q = refl
 ok_of_text P Q R (Err e) h q = absurd (h.0 q)
 
--- what holds on Ok, of a result that is no error
-pub on_ok_of : {T E : Type 0} (r : Result T E) (P : Type 0) → OnOk r P → is_err r ≡ false → P
-on_ok_of (Ok x) P h ok = h
-on_ok_of (Err e) P h ok = cc
+-- ---- what is no name has no number among names
+
+pub no_number : (names : List (List ℕ)) (word : List ℕ) → All (λ name. is_name name ≡ true) names
+    → is_name word ≡ false → number_of names word ≡ None
+no_number names word are_names other =
+    number_of-none names word (λ n at.
+    let within = slice_get_within names n word at in
+    let is = get_or_from_slice_get names n word word at in
+    false≢true (sym other ∙ subst (λ name. is_name name ≡ true) is (are_names n word within)))
+
+-- ---- a name that wasn't made is added
+
+pub with_name : (names texts : List (List ℕ)) (word name : List ℕ) → texts ≡ names → name ≡ word
+    → number_of names word ≡ None → with_text texts name ≡ texts ++ word ∷ []
+with_name names texts word name kept is new =
+    with_text-new texts name (ap₂ number_of kept is ∙ new) ∙ ap (λ n. texts ++ n ∷ []) is

@@ -34,7 +34,8 @@ use Rattle.script_lang.specs.declared.command.Placed.{Placed}
 use Rattle.script_lang.specs.Acts.{own_set, script_meaning}
 use Rattle.script_lang.specs.Listings.{Listing}
 use Rattle.script_lang.specs.ScriptCalls.{ScriptCall, call_of, calls_of, listed_calls}
-use Rattle.script_lang.specs.ScriptCalls.{ends_within_epoch, ended, is_open_after}
+use Rattle.script_lang.specs.ScriptCalls.{ends_within_epoch, ended}
+use Rattle.script_lang.specs.Parsing.Epochs.{is_open_after}
 use Rattle.script_lang.specs.ScriptAnswers.{ShownRecord, shown_line, shown_lines}
 use Rattle.script_lang.specs.ScriptAnswers.{line_at, stop_at, shown_text, stopped_at, shown_of}
 use Rattle.script_lang.proofs.ScriptCallsLemmas.{ended-open, ended-closed}

@@ -1,137 +1,124 @@
--- Which command is a line of words, or what is its fault?
+-- What is a line of words: which command, or which fault?
 --
--- A shape is a list of words. Where the words fit none of their command, the fault is BadShape,
--- whatever the names and numbers are. In a command the faults stand in the order in which they are
--- tried: names, then numbers.
-use Rattle.std.specs.Prelude.{ℕ, List, [], ◌∷◌, if◌then◌else◌, Some, None, Result, Ok, Err}
-use Rattle.std.specs.declared.option.Option.{Option}
-use Rattle.std.specs.Option.{ok_or}
-use Rattle.execution_definitions.specs.declared.serializer.By.{By}
-use Rattle.execution_definitions.specs.declared.serializer.By.TheVariants as by
-use Rattle.script_lang.specs.declared.fault.ScriptKind.{ScriptKind}
-use Rattle.script_lang.specs.declared.fault.ScriptKind.TheVariants.{UnknownCommand, BadShape}
-use Rattle.script_lang.specs.declared.keyword.Keyword.{Keyword}
-use Rattle.script_lang.specs.declared.keyword.Keyword.TheVariants as keyword
-use Rattle.script_lang.specs.declared.word32.Act.TheVariants as act
+-- The faults are tried in the order of `ScriptKind`, and the first that holds is the line's. `names`
+-- are those of the objects that the lines above make, in order.
+use Rattle.std.specs.Prelude.{ℕ, Bool, true, false, not, if◌then◌else◌, Option, Some, None, find}
+use Rattle.std.specs.Prelude.{List, [], ◌∷◌, Result, Ok, Err}
+use Rattle.std.specs.List.{filter_map, list_any, slice_index, zip}
+use Rattle.std.specs.Option.{is_none, is_some, option_and_then}
+use Rattle.ss_base.specs.Ids.{object_id}
+use Rattle.text_table.specs.TextTables.{number_of}
 use Rattle.script_lang.specs.declared.command.Command.{Command}
-use Rattle.script_lang.specs.declared.command.Command.TheVariants.{Make, MakeFixed, Begin, End}
-use Rattle.script_lang.specs.declared.command.Command.TheVariants.{Delegate, Write, Get, Total}
-use Rattle.script_lang.specs.Keywords.{keyword_of, serializer_of, is_in}
-use Rattle.script_lang.specs.Parts.{◌>>=◌, object_of, may_name, number, act_of, deed_of}
+use Rattle.script_lang.specs.declared.fault.ScriptKind.{ScriptKind}
+use Rattle.script_lang.specs.declared.fault.ScriptKind.TheVariants as kind
+use Rattle.script_lang.specs.declared.keyword.Keyword.{Keyword}
+use Rattle.script_lang.specs.Grammar.{Slot, Word, NewName, Name, Number, Set, Parts, LineShape}
+use Rattle.script_lang.specs.Grammar.{shape_of}
+use Rattle.script_lang.specs.Keywords.{keyword_of}
+use Rattle.script_lang.specs.Tokens.{is_name, number_value, set_value}
 
--- what a command is, or its fault
-abbrev pub Asked : Type 0
-Asked = Result Command ScriptKind
+-- words at their slots
+abbrev pub Filled : Type 0
+Filled = List (Slot × List ℕ)
 
--- ---- what is asked for, once the words have a shape
+-- ---- the words of a line at their slots
 
--- a writable object, with its serializer where there is one of this word
-unfoldable pub make : List (List ℕ) → List ℕ → List ℕ → Option By → Asked
-make names name value serializer = do
-  serializer ← ok_or serializer BadShape
-  _ ← may_name names name
-  value ← number value
-  Ok (Make value serializer)
+-- the command word
+abbrev pub keyword_in : List (List ℕ) → Option Keyword
+keyword_in [] = None
+keyword_in (word ∷ words) = keyword_of word
 
--- a read-only object
-unfoldable pub make_fixed : List (List ℕ) → List ℕ → List ℕ → Asked
-make_fixed names name value = do
-  _ ← may_name names name
-  value ← number value
-  Ok (MakeFixed value)
+-- the words behind it
+abbrev pub words_behind : List (List ℕ) → List (List ℕ)
+words_behind [] = []
+words_behind (word ∷ words) = words
 
--- an act, with a number or none, delegated to an object, with a set or none
-unfoldable pub delegate :
-    List (List ℕ) → List ℕ → List ℕ → Option (List ℕ) → Option (List ℕ) → Asked
-delegate names name word text set = do
-  act ← ok_or (act_of word text) BadShape
-  object ← object_of names name
-  deed ← deed_of act set
-  Ok (Delegate object deed None)
+-- the shape that they fit
+abbrev pub shape_in : List (List ℕ) → Option LineShape
+shape_in words = option_and_then (λ keyword. shape_of keyword (words_behind words)) (keyword_in words)
 
--- a Mix delegated to the first object, reading the second, with a set or none
-unfoldable pub mix : List (List ℕ) → List ℕ → List ℕ → Option (List ℕ) → Asked
-mix names first second set = do
-  object ← object_of names first
-  reading ← object_of names second
-  deed ← deed_of (Ok act.Mix) set
-  Ok (Delegate object deed (Some reading))
+-- ---- faults
 
--- an act, with a number or none, in the program context
-unfoldable pub write : List (List ℕ) → List ℕ → List ℕ → Option (List ℕ) → Asked
-write names name word text = do
-  act ← ok_or (act_of word text) BadShape
-  object ← object_of names name
-  deed ← deed_of act None
-  Ok (Write object deed)
+-- a line above makes an object of this name
+abbrev pub is_made : List (List ℕ) → List ℕ → Bool
+is_made names name = is_some (number_of names name)
 
--- an object's value
-unfoldable pub show : List (List ℕ) → List ℕ → Asked
-show names name = do
-  object ← object_of names name
-  Ok (Get object)
+-- a word at a slot has a fault of this kind
+abbrev pub has_fault : List (List ℕ) → ScriptKind → Slot → List ℕ → Bool
+has_fault names kind.BadName NewName word = not (is_name word)
+has_fault names kind.NameTaken NewName word = is_made names word
+has_fault names kind.NameUnknown Name word = not (is_made names word)
+has_fault names kind.BadNumber Number word = is_none (number_value word)
+has_fault names kind.BadNumber Set word = is_none (set_value word)
+has_fault names kind slot word = false
 
--- ---- the shapes, as lists of the words behind the command word
+-- the first fault that some word at its slot has
+abbrev pub first_fault : List (List ℕ) → Filled → Option ScriptKind
+first_fault names filled =
+    find (λ kind. list_any (λ at. has_fault names kind at.0 at.1) filled)
+    (kind.BadName ∷ kind.NameTaken ∷ kind.NameUnknown ∷ kind.BadNumber ∷ [])
 
--- NAME NUMBER, and NAME NUMBER with the word of a serializer
-abbrev pub object_line : List (List ℕ) → List (List ℕ) → Asked
-object_line names (name ∷ value ∷ []) = make names name value (Some by.Object)
-object_line names (name ∷ value ∷ word ∷ []) = make names name value (serializer_of word)
-object_line names _ = Err BadShape
+-- ---- parts
 
--- NAME NUMBER
-abbrev pub fixed_line : List (List ℕ) → List (List ℕ) → Asked
-fixed_line names (name ∷ value ∷ []) = make_fixed names name value
-fixed_line names _ = Err BadShape
+-- the number of the object that is named at a slot
+abbrev pub object_at : List (List ℕ) → Slot → List ℕ → Option ℕ
+object_at names Name word = number_of names word
+object_at names slot word = None
 
--- no words
-abbrev pub alone : Command → List (List ℕ) → Asked
-alone command [] = Ok command
-alone command _ = Err BadShape
+-- the value of a NUMBER
+abbrev pub number_at : Slot → List ℕ → Option ℕ
+number_at Number word = number_value word
+number_at slot word = None
 
--- NAME ACT, and NAME ACT in SET, where an ACT is one word or a word and a NUMBER
-abbrev pub do_line : List (List ℕ) → List (List ℕ) → Asked
-do_line names (name ∷ act ∷ []) = delegate names name act None None
-do_line names (name ∷ act ∷ value ∷ []) = delegate names name act (Some value) None
-do_line names (name ∷ act ∷ word ∷ set ∷ []) =
-    if is_in word then delegate names name act None (Some set) else Err BadShape
-do_line names (name ∷ act ∷ value ∷ word ∷ set ∷ []) =
-    if is_in word then delegate names name act (Some value) (Some set) else Err BadShape
-do_line names _ = Err BadShape
+-- the value of a SET
+abbrev pub set_at : Slot → List ℕ → Option ℕ
+set_at Set word = set_value word
+set_at slot word = None
 
--- NAME NAME, and NAME NAME in SET
-abbrev pub mix_line : List (List ℕ) → List (List ℕ) → Asked
-mix_line names (first ∷ second ∷ []) = mix names first second None
-mix_line names (first ∷ second ∷ word ∷ set ∷ []) =
-    if is_in word then mix names first second (Some set) else Err BadShape
-mix_line names _ = Err BadShape
+-- what words at their slots stand for
+abbrev pub parts_of : List (List ℕ) → Filled → Parts
+parts_of names filled =
+    let objects = filter_map (λ at. object_at names at.0 at.1) filled in
+    record {
+      object = object_id (slice_index objects 0);
+      other = object_id (slice_index objects 1);
+      number = slice_index (filter_map (λ at. number_at at.0 at.1) filled) 0;
+      set = slice_index (filter_map (λ at. set_at at.0 at.1) filled) 0;
+    }
 
--- NAME ACT
-abbrev pub write_line : List (List ℕ) → List (List ℕ) → Asked
-write_line names (name ∷ act ∷ []) = write names name act None
-write_line names (name ∷ act ∷ value ∷ []) = write names name act (Some value)
-write_line names _ = Err BadShape
+-- ---- the command
 
--- NAME
-abbrev pub show_line : List (List ℕ) → List (List ℕ) → Asked
-show_line names (name ∷ []) = show names name
-show_line names _ = Err BadShape
+-- a fault where there is one, and else what is meant
+abbrev pub unless_fault : {E T : Type 0} → Option E → T → Result T E
+unless_fault (Some fault) meant = Err fault
+unless_fault None meant = Ok meant
 
--- the words behind a command word
-unfoldable pub line_of : List (List ℕ) → Keyword → List (List ℕ) → Asked
-line_of names keyword.Object words = object_line names words
-line_of names keyword.Fixed words = fixed_line names words
-line_of names keyword.Isolate words = alone Begin words
-line_of names keyword.Join words = alone End words
-line_of names keyword.Do words = do_line names words
-line_of names keyword.Mix words = mix_line names words
-line_of names keyword.Write words = write_line names words
-line_of names keyword.Show words = show_line names words
-line_of names keyword.Total words = alone Total words
+-- the command of words that fit a shape, or none
+abbrev pub shaped_command :
+    List (List ℕ) → Option LineShape → List (List ℕ) → Result Command ScriptKind
+shaped_command names None words = Err kind.BadShape
+shaped_command names (Some shape) words =
+    let filled = zip shape.slots words in
+    unless_fault (first_fault names filled) (shape.command (parts_of names filled))
 
--- a line of words, the first of which is the command word
-unfoldable pub command_of : List (List ℕ) → List (List ℕ) → Asked
-command_of names [] = Err UnknownCommand
-command_of names (word ∷ words) = do
-  keyword ← ok_or (keyword_of word) UnknownCommand
-  line_of names keyword words
+-- the command of a line, or its first fault
+unfoldable pub line_command : List (List ℕ) → List (List ℕ) → Result Command ScriptKind
+line_command names words =
+    if is_none (keyword_in words) then Err kind.UnknownCommand
+    else shaped_command names (shape_in words) (words_behind words)
+
+-- ---- the name that a line makes
+
+-- the new name at a slot
+abbrev pub name_at : Slot → List ℕ → Option (List ℕ)
+name_at NewName word = Some word
+name_at slot word = None
+
+-- the new names among words that fit a shape, or none
+abbrev pub shaped_names : Option LineShape → List (List ℕ) → List (List ℕ)
+shaped_names None words = []
+shaped_names (Some shape) words = filter_map (λ at. name_at at.0 at.1) (zip shape.slots words)
+
+-- the names that a line makes
+unfoldable pub names_made : List (List ℕ) → List (List ℕ)
+names_made words = shaped_names (shape_in words) (words_behind words)

@@ -21,9 +21,9 @@ keyword_of word =
     else (if bytes_eq word (codes "total") then Some keyword.Total
     else None))))))))
 
--- the serializer that a word asks for
-unfoldable pub serializer_of : List ℕ → Option By
-serializer_of word =
+-- the serializer that a word names
+unfoldable pub serializer_named : List ℕ → Option By
+serializer_named word =
     if bytes_eq word (codes "object") then Some by.Object
     else (if bytes_eq word (codes "sequence") then Some by.Sequence
     else (if bytes_eq word (codes "own") then Some by.Own

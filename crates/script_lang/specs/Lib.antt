@@ -1,10 +1,10 @@
 pub mod Acts
-pub mod Commands
-pub mod Keywords
 pub mod Lines
-pub mod Listings
-pub mod Names
-pub mod Parts
-pub mod ScriptAnswers
-pub mod ScriptCalls
 pub mod Tokens
+pub mod Keywords
+pub mod Grammar
+pub mod Commands
+pub mod Listings
+pub mod ScriptCalls
+pub mod ScriptAnswers
+pub mod Parsing

@@ -28,8 +28,8 @@ abbrev pub is_some_word : List ℕ → Bool
 is_some_word bytes = nat_lt 0 (length bytes)
 
 -- the words of a line: its longest runs of bytes that aren't blanks
-abbrev pub words_of : List ℕ → List (List ℕ)
-words_of line = filter is_some_word (slice_split is_blank line)
+abbrev pub line_words : List ℕ → List (List ℕ)
+line_words line = filter is_some_word (slice_split is_blank line)
 
 -- the word begins with `#`
 abbrev pub begins_comment : List ℕ → Bool

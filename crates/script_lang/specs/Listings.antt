@@ -1,70 +1,67 @@
 -- Which commands is a script, or what is its fault?
 --
--- Lines are read in order, each after the names that the lines above it make. The first line with a
--- fault ends the reading, so its fault is the script's.
-use Rattle.std.specs.Prelude.{ℕ, ◌+◌, Bool, true, false, if◌then◌else◌}
-use Rattle.std.specs.Prelude.{List, [], ◌∷◌, ◌++◌, slice_get, None, Result, Ok, Err}
-use Rattle.std.specs.declared.option.Option.{Option}
-use Rattle.std.specs.Option.{option_to_list}
+-- What a line is hangs on the names that the lines above it make. The fault of a script is that of its
+-- first line that has one.
+use Rattle.std.specs.Prelude.{ℕ, not, Option, Some, None, Result, Ok, Err}
+use Rattle.std.specs.Prelude.{List, [], ◌∷◌, ◌++◌, map, filter, slice_get}
+use Rattle.std.specs.List.{enumerate_from, filter_map, flat_map}
 use Rattle.script_lang.specs.declared.command.Command.{Command}
-use Rattle.script_lang.specs.declared.command.Command.TheVariants.{Make, MakeFixed}
 use Rattle.script_lang.specs.declared.command.Placed.{Placed}
 use Rattle.script_lang.specs.declared.fault.ScriptFault.{ScriptFault}
 use Rattle.script_lang.specs.declared.fault.ScriptKind.{ScriptKind}
-use Rattle.script_lang.specs.Commands.{command_of}
-use Rattle.script_lang.specs.Lines.{lines, words_of, is_skipped}
+use Rattle.script_lang.specs.Commands.{unless_fault, line_command, names_made}
+use Rattle.script_lang.specs.Lines.{lines, line_words, is_skipped}
 
 -- the commands of a script, each with its line, and the names of its objects by their numbers
 pub record Listing : Type 0 where
   pub commands : List Placed
   pub names : List (List ℕ)
 
--- before the first line
-abbrev pub nothing_read : Listing
-nothing_read = record { commands = []; names = [] }
+-- a line that isn't skipped: its number, and its words
+abbrev pub Row : Type 0
+Row = ℕ × List (List ℕ)
 
--- the command makes an object
-abbrev pub makes_object : Command → Bool
-makes_object (Make value by) = true
-makes_object (MakeFixed value) = true
-makes_object _ = false
+-- a line's number, and its command or its fault
+abbrev pub LineAnswer : Type 0
+LineAnswer = ℕ × Result Command ScriptKind
 
--- the name that a command makes: the second word of its line
-unfoldable pub name_made : Command → List (List ℕ) → Option (List ℕ)
-name_made command words = if makes_object command then slice_get words 1 else None
+-- the rows of lines, the first of which has this number
+abbrev pub rows_from : ℕ → List (List ℕ) → List Row
+rows_from number lines =
+    filter (λ row. not (is_skipped row.1)) (enumerate_from number (map line_words lines))
 
--- the listing with one command more
-unfoldable pub listing_with : Listing → ℕ → List (List ℕ) → Command → Listing
-listing_with listing line words command = record {
-  commands = listing.commands ++ record { command = command; line = line } ∷ [];
-  names = listing.names ++ option_to_list (name_made command words);
-}
+-- the names that rows make
+abbrev pub names_of : List Row → List (List ℕ)
+names_of rows = flat_map (λ row. names_made row.1) rows
 
--- after a command, or its fault
-abbrev pub after_command :
-    Listing → ℕ → List (List ℕ) → Result Command ScriptKind → Result Listing ScriptFault
-after_command listing line words (Ok command) = Ok (listing_with listing line words command)
-after_command listing line words (Err kind) = Err (record { line = line; kind = kind })
+-- what rows below others are, each by the names that all rows above it make
+abbrev pub line_answers : List Row → List Row → List LineAnswer
+line_answers above [] = []
+line_answers above (row ∷ rest) =
+    (row.0, line_command (names_of above) row.1) ∷ line_answers (above ++ row ∷ []) rest
 
--- after a line with this number and these words
-unfoldable pub after_line : Listing → ℕ → List (List ℕ) → Result Listing ScriptFault
-after_line listing line words =
-    if is_skipped words then Ok listing
-    else after_command listing line words (command_of listing.names words)
+-- the command of a row, with its line
+abbrev pub command_on : ℕ → Result Command ScriptKind → Option Placed
+command_on line (Ok command) = Some (record { command = command; line = line })
+command_on line (Err kind) = None
 
--- the next lines, unless a line before them has a fault
-abbrev pub unless_fault :
-    Result Listing ScriptFault → (Listing → Result Listing ScriptFault) → Result Listing ScriptFault
-unless_fault (Ok listing) next = next listing
-unless_fault (Err fault) next = Err fault
+-- the fault of a row, with its line
+abbrev pub fault_on : ℕ → Result Command ScriptKind → Option ScriptFault
+fault_on line (Ok command) = None
+fault_on line (Err kind) = Some (record { line = line; kind = kind })
 
--- after these lines, the first of which has this number
-abbrev pub after_lines : Listing → ℕ → List (List ℕ) → Result Listing ScriptFault
-after_lines listing line [] = Ok listing
-after_lines listing line (text ∷ rest) =
-    unless_fault (after_line listing line (words_of text))
-    (λ more. after_lines more (line + 1) rest)
+-- the commands of rows, each with its line
+abbrev pub commands_in : List LineAnswer → List Placed
+commands_in answers = filter_map (λ answer. command_on answer.0 answer.1) answers
 
--- the listing of a script, whose lines are numbered from 1, or its fault
+-- the faults of rows, in their order
+abbrev pub faults_in : List LineAnswer → List ScriptFault
+faults_in answers = filter_map (λ answer. fault_on answer.0 answer.1) answers
+
+-- the listing of a script, whose lines are numbered from 1, or its first fault
 unfoldable pub listing_of : List ℕ → Result Listing ScriptFault
-listing_of bytes = after_lines nothing_read 1 (lines bytes)
+listing_of bytes =
+    let rows = rows_from 1 (lines bytes) in
+    let answers = line_answers [] rows in
+    unless_fault (slice_get (faults_in answers) 0)
+    (record { commands = commands_in answers; names = names_of rows })

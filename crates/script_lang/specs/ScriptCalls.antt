@@ -44,9 +44,3 @@ ended calls = if ends_within_epoch calls then calls ++ call.End ∷ [] else call
 -- the calls of a script, numbered from 0
 abbrev pub calls_of : Listing → List ScriptCall
 calls_of listing = ended (listed_calls listing.commands)
-
--- an epoch is open after a command, where it was or wasn't before
-abbrev pub is_open_after : Command → Bool → Bool
-is_open_after Begin is_open = true
-is_open_after End is_open = false
-is_open_after _ is_open = is_open

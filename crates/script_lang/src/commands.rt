@@ -1,25 +1,21 @@
 // The command that a line of words is.
 ghost use Rattle.std.specs.Prelude.{◌≡◌, map};
 ghost use Rattle.std.specs.Option.{option_copied};
-ghost use Rattle.script_lang.specs.Commands.{make, make_fixed, delegate, mix, write, show};
-ghost use Rattle.script_lang.specs.Commands.{object_line, fixed_line, alone, do_line, mix_line};
-ghost use Rattle.script_lang.specs.Commands.{write_line, show_line, line_of, command_of};
+ghost use Rattle.script_lang.specs.Parsing.Commands.{make, make_fixed, delegate, mix, write, show};
+ghost use Rattle.script_lang.specs.Parsing.Commands.{object_line, fixed_line, alone, do_line, mix_line};
+ghost use Rattle.script_lang.specs.Parsing.Commands.{write_line, show_line, line_of};
+ghost use Rattle.script_lang.specs.Commands.{line_command};
 
 use crate::command::Command;
 use crate::fault::ScriptKind;
-use crate::keyword::{Keyword, is_in, keyword_of, serializer_of};
+use crate::keyword::{Keyword, is_in, keyword_of, serializer_named};
 use crate::names::Names;
 use crate::parts::{act_of, deed_of, may_name, number, object_of};
 use crate::word32::Act;
 use execution_definitions::By;
 
-#[tactic(auto, unfolding(crate::specs::Commands::make))]
-fn make<'a>(
-    names: &Names<'a>,
-    name: &'a [u8],
-    value: &[u8],
-    by: Option<By>,
-) -> Result<Command, ScriptKind>
+#[tactic(auto, unfolding(crate::specs::Parsing::Commands::make))]
+fn make(names: &Names, name: &[u8], value: &[u8], by: Option<By>) -> Result<Command, ScriptKind>
     ensures { result ≡ make names.now name.now value.now by }
 {
     let by = by.ok_or(ScriptKind::BadShape)?;
@@ -28,8 +24,8 @@ fn make<'a>(
     Ok(Command::Make { value, by })
 }
 
-#[tactic(auto, unfolding(crate::specs::Commands::make_fixed))]
-fn make_fixed<'a>(names: &Names<'a>, name: &'a [u8], value: &[u8]) -> Result<Command, ScriptKind>
+#[tactic(auto, unfolding(crate::specs::Parsing::Commands::make_fixed))]
+fn make_fixed(names: &Names, name: &[u8], value: &[u8]) -> Result<Command, ScriptKind>
     ensures { result ≡ make_fixed names.now name.now value.now }
 {
     may_name(names, name)?;
@@ -37,10 +33,10 @@ fn make_fixed<'a>(names: &Names<'a>, name: &'a [u8], value: &[u8]) -> Result<Com
     Ok(Command::MakeFixed { value })
 }
 
-#[tactic(auto, unfolding(crate::specs::Commands::delegate))]
-fn delegate<'a>(
-    names: &Names<'a>,
-    name: &'a [u8],
+#[tactic(auto, unfolding(crate::specs::Parsing::Commands::delegate))]
+fn delegate(
+    names: &Names,
+    name: &[u8],
     word: &[u8],
     text: Option<&[u8]>,
     set: Option<&[u8]>,
@@ -58,11 +54,11 @@ fn delegate<'a>(
     })
 }
 
-#[tactic(auto, unfolding(crate::specs::Commands::mix))]
-fn mix<'a>(
-    names: &Names<'a>,
-    first: &'a [u8],
-    second: &'a [u8],
+#[tactic(auto, unfolding(crate::specs::Parsing::Commands::mix))]
+fn mix(
+    names: &Names,
+    first: &[u8],
+    second: &[u8],
     set: Option<&[u8]>,
 ) -> Result<Command, ScriptKind>
     ensures { result ≡ mix names.now first.now second.now (option_copied set.entry) }
@@ -77,10 +73,10 @@ fn mix<'a>(
     })
 }
 
-#[tactic(auto, unfolding(crate::specs::Commands::write))]
-fn write<'a>(
-    names: &Names<'a>,
-    name: &'a [u8],
+#[tactic(auto, unfolding(crate::specs::Parsing::Commands::write))]
+fn write(
+    names: &Names,
+    name: &[u8],
     word: &[u8],
     text: Option<&[u8]>,
 ) -> Result<Command, ScriptKind>
@@ -92,25 +88,25 @@ fn write<'a>(
     Ok(Command::Write { object, deed })
 }
 
-#[tactic(auto, unfolding(crate::specs::Commands::show))]
-fn show<'a>(names: &Names<'a>, name: &'a [u8]) -> Result<Command, ScriptKind>
+#[tactic(auto, unfolding(crate::specs::Parsing::Commands::show))]
+fn show(names: &Names, name: &[u8]) -> Result<Command, ScriptKind>
     ensures { result ≡ show names.now name.now }
 {
     let object = object_of(names, name)?;
     Ok(Command::Get { object })
 }
 
-fn object_line<'a>(names: &Names<'a>, words: &[&'a [u8]]) -> Result<Command, ScriptKind>
+fn object_line(names: &Names, words: &[&[u8]]) -> Result<Command, ScriptKind>
     ensures { result ≡ object_line names.now (map (λ word. word.now) words.now) }
 {
     match words {
         [name, value] => make(names, name, value, Some(By::Object)),
-        [name, value, word] => make(names, name, value, serializer_of(word)),
+        [name, value, word] => make(names, name, value, serializer_named(word)),
         _ => Err(ScriptKind::BadShape),
     }
 }
 
-fn fixed_line<'a>(names: &Names<'a>, words: &[&'a [u8]]) -> Result<Command, ScriptKind>
+fn fixed_line(names: &Names, words: &[&[u8]]) -> Result<Command, ScriptKind>
     ensures { result ≡ fixed_line names.now (map (λ word. word.now) words.now) }
 {
     match words {
@@ -128,7 +124,7 @@ fn alone(command: Command, words: &[&[u8]]) -> Result<Command, ScriptKind>
     }
 }
 
-fn do_line<'a>(names: &Names<'a>, words: &[&'a [u8]]) -> Result<Command, ScriptKind>
+fn do_line(names: &Names, words: &[&[u8]]) -> Result<Command, ScriptKind>
     ensures { result ≡ do_line names.now (map (λ word. word.now) words.now) }
 {
     match words {
@@ -142,7 +138,7 @@ fn do_line<'a>(names: &Names<'a>, words: &[&'a [u8]]) -> Result<Command, ScriptK
     }
 }
 
-fn mix_line<'a>(names: &Names<'a>, words: &[&'a [u8]]) -> Result<Command, ScriptKind>
+fn mix_line(names: &Names, words: &[&[u8]]) -> Result<Command, ScriptKind>
     ensures { result ≡ mix_line names.now (map (λ word. word.now) words.now) }
 {
     match words {
@@ -152,7 +148,7 @@ fn mix_line<'a>(names: &Names<'a>, words: &[&'a [u8]]) -> Result<Command, Script
     }
 }
 
-fn write_line<'a>(names: &Names<'a>, words: &[&'a [u8]]) -> Result<Command, ScriptKind>
+fn write_line(names: &Names, words: &[&[u8]]) -> Result<Command, ScriptKind>
     ensures { result ≡ write_line names.now (map (λ word. word.now) words.now) }
 {
     match words {
@@ -162,7 +158,7 @@ fn write_line<'a>(names: &Names<'a>, words: &[&'a [u8]]) -> Result<Command, Scri
     }
 }
 
-fn show_line<'a>(names: &Names<'a>, words: &[&'a [u8]]) -> Result<Command, ScriptKind>
+fn show_line(names: &Names, words: &[&[u8]]) -> Result<Command, ScriptKind>
     ensures { result ≡ show_line names.now (map (λ word. word.now) words.now) }
 {
     match words {
@@ -172,12 +168,8 @@ fn show_line<'a>(names: &Names<'a>, words: &[&'a [u8]]) -> Result<Command, Scrip
 }
 
 // The command of the words behind a command word.
-#[tactic(auto, unfolding(crate::specs::Commands::line_of))]
-fn line_of<'a>(
-    names: &Names<'a>,
-    keyword: Keyword,
-    words: &[&'a [u8]],
-) -> Result<Command, ScriptKind>
+#[tactic(auto, unfolding(crate::specs::Parsing::Commands::line_of))]
+fn line_of(names: &Names, keyword: Keyword, words: &[&[u8]]) -> Result<Command, ScriptKind>
     ensures { result ≡ line_of names.now keyword (map (λ word. word.now) words.now) }
 {
     match keyword {
@@ -193,15 +185,16 @@ fn line_of<'a>(
     }
 }
 
-/// The command that a line of words is, where these names were made, or the line's fault. It takes
+/// The command of a line of words, where these names were made, or the line's first fault. It takes
 /// no memory.
-#[tactic(auto, unfolding(crate::specs::Commands::command_of))]
-pub(crate) fn command_of<'a>(names: &Names<'a>, words: &[&'a [u8]]) -> Result<Command, ScriptKind>
-    ensures { result ≡ command_of names.now (map (λ word. word.now) words.now) }
+pub(crate) fn line_command(names: &Names, words: &[&[u8]]) -> Result<Command, ScriptKind>
+    ensures { result ≡ line_command names.now (map (λ word. word.now) words.now) }
 {
     let Some((word, words)) = words.split_first() else {
         return Err(ScriptKind::UnknownCommand);
     };
-    let keyword = keyword_of(word).ok_or(ScriptKind::UnknownCommand)?;
-    line_of(names, keyword, words)
+    match keyword_of(word) {
+        Some(keyword) => line_of(names, keyword, words),
+        None => Err(ScriptKind::UnknownCommand),
+    }
 }

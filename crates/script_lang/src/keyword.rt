@@ -1,6 +1,6 @@
 // The words that the language knows.
 ghost use Rattle.std.specs.Prelude.{◌≡◌};
-ghost use Rattle.script_lang.specs.Keywords.{keyword_of, serializer_of, is_in};
+ghost use Rattle.script_lang.specs.Keywords.{keyword_of, serializer_named, is_in};
 
 use execution_definitions::By;
 
@@ -36,9 +36,9 @@ pub(crate) fn keyword_of(word: &[u8]) -> Option<Keyword>
     }
 }
 
-#[tactic(auto, unfolding(crate::specs::Keywords::serializer_of))]
-pub(crate) fn serializer_of(word: &[u8]) -> Option<By>
-    ensures { result ≡ serializer_of word.now }
+#[tactic(auto, unfolding(crate::specs::Keywords::serializer_named))]
+pub(crate) fn serializer_named(word: &[u8]) -> Option<By>
+    ensures { result ≡ serializer_named word.now }
 {
     match word {
         b"object" => Some(By::Object),

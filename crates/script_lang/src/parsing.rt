@@ -28,7 +28,7 @@ pub fn parse(alloc: Global, bytes: &[u8]) -> Result<Script, ParseFault>
     let mut line = 0;
     for text in bytes.split(|byte| is_line_end(*byte)) {
         line += 1;
-        reader.read_line(alloc, line, text)?;
+        reader.read_line(line, text)?;
     }
     Ok(reader.into_script())
 }

@@ -1,7 +1,8 @@
 // The names, the numbers and the act of a command.
 ghost use Rattle.std.specs.Prelude.{◌≡◌};
 ghost use Rattle.std.specs.Option.{option_copied};
-ghost use Rattle.script_lang.specs.Parts.{object_of, may_name, number, own_set, act_of, deed_of};
+ghost use Rattle.script_lang.specs.Parsing.Parts.{object_of, may_name, number, set_behind};
+ghost use Rattle.script_lang.specs.Parsing.Parts.{act_of, deed_of};
 
 use crate::fault::ScriptKind;
 use crate::names::Names;
@@ -10,8 +11,8 @@ use crate::word32::{Act, Deed};
 use ss_base::ObjectId;
 
 // The object of a name that was made.
-#[tactic(auto, unfolding(crate::specs::Parts::object_of))]
-pub(crate) fn object_of<'a>(names: &Names<'a>, name: &'a [u8]) -> Result<ObjectId, ScriptKind>
+#[tactic(auto, unfolding(crate::specs::Parsing::Parts::object_of))]
+pub(crate) fn object_of(names: &Names, name: &[u8]) -> Result<ObjectId, ScriptKind>
     ensures { result ≡ object_of names.now name.now }
 {
     match names.number_of(name) {
@@ -21,8 +22,8 @@ pub(crate) fn object_of<'a>(names: &Names<'a>, name: &'a [u8]) -> Result<ObjectI
 }
 
 // Whether an object may have this name, and why not.
-#[tactic(auto, unfolding(crate::specs::Parts::may_name))]
-pub(crate) fn may_name<'a>(names: &Names<'a>, name: &'a [u8]) -> Result<(), ScriptKind>
+#[tactic(auto, unfolding(crate::specs::Parsing::Parts::may_name))]
+pub(crate) fn may_name(names: &Names, name: &[u8]) -> Result<(), ScriptKind>
     ensures { result ≡ may_name names.now name.now }
 {
     if !is_name(name) {
@@ -34,7 +35,7 @@ pub(crate) fn may_name<'a>(names: &Names<'a>, name: &'a [u8]) -> Result<(), Scri
     Ok(())
 }
 
-#[tactic(auto, unfolding(crate::specs::Parts::number))]
+#[tactic(auto, unfolding(crate::specs::Parsing::Parts::number))]
 pub(crate) fn number(word: &[u8]) -> Result<u32, ScriptKind>
     ensures { result ≡ number word.now }
 {
@@ -42,9 +43,9 @@ pub(crate) fn number(word: &[u8]) -> Result<u32, ScriptKind>
 }
 
 // The set behind `in`. Without it the set is 0.
-#[tactic(auto, unfolding(crate::specs::Parts::own_set))]
-fn own_set(word: Option<&[u8]>) -> Result<u64, ScriptKind>
-    ensures { result ≡ own_set (option_copied word.entry) }
+#[tactic(auto, unfolding(crate::specs::Parsing::Parts::set_behind))]
+fn set_behind(word: Option<&[u8]>) -> Result<u64, ScriptKind>
+    ensures { result ≡ set_behind (option_copied word.entry) }
 {
     match word {
         Some(word) => set_value(word).ok_or(ScriptKind::BadNumber),
@@ -53,7 +54,7 @@ fn own_set(word: Option<&[u8]>) -> Result<u64, ScriptKind>
 }
 
 // The act of a word, and of a number behind it or none. `None` where no act is spelt so.
-#[tactic(auto, unfolding(crate::specs::Parts::act_of))]
+#[tactic(auto, unfolding(crate::specs::Parsing::Parts::act_of))]
 pub(crate) fn act_of(word: &[u8], text: Option<&[u8]>) -> Option<Result<Act, ScriptKind>>
     ensures { result ≡ act_of word.now (option_copied text.entry) }
 {
@@ -67,11 +68,11 @@ pub(crate) fn act_of(word: &[u8], text: Option<&[u8]>) -> Option<Result<Act, Scr
 }
 
 // An act with its own set.
-#[tactic(auto, unfolding(crate::specs::Parts::deed_of))]
+#[tactic(auto, unfolding(crate::specs::Parsing::Parts::deed_of))]
 pub(crate) fn deed_of(act: Result<Act, ScriptKind>, set: Option<&[u8]>) -> Result<Deed, ScriptKind>
     ensures { result ≡ deed_of act (option_copied set.entry) }
 {
     let act = act?;
-    let set = own_set(set)?;
+    let set = set_behind(set)?;
     Ok(Deed { act, set })
 }

@@ -1,13 +1,13 @@
 // Reads a script line by line.
-ghost use Rattle.std.specs.Prelude.{◌≡◌, ◌<◌, ◌^◌, map, length, Ok, Err, OnOk};
+ghost use Rattle.std.specs.Prelude.{◌≡◌, map, Ok, Err, OnOk};
 ghost use Rattle.std.specs.Option.{option_copied};
-ghost use Rattle.script_lang.specs.Commands.{command_of};
-ghost use Rattle.script_lang.specs.Lines.{words_of};
-ghost use Rattle.script_lang.specs.Listings.{nothing_read, makes_object, name_made};
-ghost use Rattle.script_lang.specs.Listings.{listing_with, after_line};
+ghost use Rattle.script_lang.specs.Commands.{line_command};
+ghost use Rattle.script_lang.specs.Lines.{line_words};
+ghost use Rattle.script_lang.specs.Parsing.Reading.{nothing_read, makes_object, name_made};
+ghost use Rattle.script_lang.specs.Parsing.Reading.{listing_with, after_line};
 
 use crate::command::{Command, Placed};
-use crate::commands::command_of;
+use crate::commands::line_command;
 use crate::fault::{ParseFault, ScriptFault};
 use crate::names::Names;
 use crate::script::Script;
@@ -18,12 +18,12 @@ use std::marker::Model;
 
 /// What was read of a script. Contracts see its listing.
 #[derive(Drop)]
-pub(crate) struct Reader<'a> {
+pub(crate) struct Reader {
     commands: Vec<Placed>,
-    names: Names<'a>,
+    names: Names,
 }
 
-impl<'a> Model for Reader<'a> {
+impl Model for Reader {
     ghost use Rattle.script_lang.specs.Listings.{Listing};
 
     ghost Value = { Listing };
@@ -38,7 +38,7 @@ fn makes_object(command: Command) -> bool
 }
 
 // The name that a command makes, which is its line's second word.
-#[tactic(auto, unfolding(crate::specs::Listings::name_made))]
+#[tactic(auto, unfolding(crate::specs::Parsing::Reading::name_made))]
 fn name_made<'a>(command: Command, words: &[&'a [u8]]) -> Option<&'a [u8]>
     ensures { option_copied result ≡ name_made command (map (λ word. word.now) words.now) }
 {
@@ -48,9 +48,9 @@ fn name_made<'a>(command: Command, words: &[&'a [u8]]) -> Option<&'a [u8]>
     words.get(1).copied()
 }
 
-impl<'a> Reader<'a> {
+impl Reader {
     /// Nothing is read yet. It takes no memory.
-    pub(crate) fn new(alloc: Global) -> Reader<'a>
+    pub(crate) fn new(alloc: Global) -> Reader
         ensures { result ≡ nothing_read }
     {
         Reader {
@@ -60,46 +60,39 @@ impl<'a> Reader<'a> {
     }
 
     // Appends the command of a line. After an `OutOfMemory` nothing is said of this reader.
-    fn push(&mut self, alloc: Global, placed: Placed, words: &[&'a [u8]]) -> Result<(), OutOfMemory>
-        requires room { length self.old.names < 2 ^ 32 }
-        requires command { command_of self.old.names (map (λ word. word.now) words.now)
+    fn push(&mut self, placed: Placed, words: &[&[u8]]) -> Result<(), OutOfMemory>
+        requires { line_command self.old.names (map (λ word. word.now) words.now)
             ≡ Ok placed.command }
         ensures { OnOk result (self.new ≡ listing_with self.old placed.line
             (map (λ word. word.now) words.now) placed.command) }
     {
         if let Some(name) = name_made(placed.command, words) {
-            self.names.push(alloc, name)?;
+            self.names.push(name)?;
         }
         self.commands.push(placed)?;
         Ok(())
     }
 
     /// Reads the next line. After an error nothing is said of this reader.
-    pub(crate) fn read_line(
-        &mut self,
-        alloc: Global,
-        line: u32,
-        text: &'a [u8],
-    ) -> Result<(), ParseFault>
-        requires { length self.old.names < 2 ^ 32 }
-        ensures ok { OnOk result (after_line self.old line (words_of text.now) ≡ Ok self.new) }
+    pub(crate) fn read_line(&mut self, line: u32, text: &[u8]) -> Result<(), ParseFault>
+        ensures ok { OnOk result (after_line self.old line (line_words text.now) ≡ Ok self.new) }
         ensures fault { (fault : ScriptFault) → result ≡ Err (ParseFault.Text fault)
-            → after_line self.old line (words_of text.now) ≡ Err fault }
+            → after_line self.old line (line_words text.now) ≡ Err fault }
     {
         let kept = Words::of(text);
         let words = kept.as_slice();
         if is_skipped(words) {
             return Ok(());
         }
-        match command_of(&self.names, words) {
-            Ok(command) => Ok(self.push(alloc, Placed { command, line }, words)?),
+        match line_command(&self.names, words) {
+            Ok(command) => Ok(self.push(Placed { command, line }, words)?),
             Err(kind) => Err(ParseFault::Text(ScriptFault { line, kind })),
         }
     }
 
     /// The script that was read.
     pub(crate) fn into_script(self) -> Script
-        ensures { result ≡ self.entry }
+        ensures { result ≡ self }
     {
         let Reader { commands, names } = self;
         Script::of(commands, names.into_texts())

@@ -1,21 +1,23 @@
 // A script that was read.
 ghost use Rattle.std.specs.Prelude.{◌≡◌, IfOk, slice_get};
 ghost use Rattle.std.specs.Option.{option_map, option_copied};
-ghost use Rattle.script_lang.specs.ScriptCalls.{calls_of, call_of, is_open_after};
+ghost use Rattle.script_lang.specs.ScriptCalls.{calls_of, call_of};
+ghost use Rattle.script_lang.specs.Parsing.Epochs.{is_open_after};
 
 use crate::command::{Command, Placed};
 use crate::word32::Word32;
 use delegation::Call;
-use ss_base::{ObjectId, OutOfMemory, Text};
+use ss_base::{ObjectId, OutOfMemory};
 use std::alloc::Global;
 use std::marker::Model;
+use text_table::TextList;
 
 /// A script. Contracts see its listing: the commands, each with its line, and the names of the
 /// objects by their numbers.
 #[derive(Drop, Debug)]
 pub struct Script {
     commands: Vec<Placed>,
-    names: Vec<Text>,
+    names: TextList,
 }
 
 impl Model for Script {
@@ -25,12 +27,12 @@ impl Model for Script {
 
     ghost view = { λ script. record {
       commands = script.commands.items;
-      names = script.names.items;
+      names = script.names;
     } };
 }
 
 // The call of a command.
-fn call_of(command: Command) -> Call<Word32>
+pub(crate) fn call_of(command: Command) -> Call<Word32>
     ensures { result ≡ call_of command }
 {
     match command {
@@ -70,8 +72,8 @@ pub(crate) fn is_open_after(command: Command, is_open: bool) -> bool
 }
 
 impl Script {
-    pub(crate) fn of(commands: Vec<Placed>, names: Vec<Text>) -> Script
-        ensures { result ≡ record { commands = commands.items; names = names.items } }
+    pub(crate) fn of(commands: Vec<Placed>, names: TextList) -> Script
+        ensures { result ≡ record { commands = commands.items; names = names } }
     {
         Script { commands, names }
     }
@@ -112,6 +114,6 @@ impl Script {
     pub fn name(&self, object: ObjectId) -> Option<&str>
         ensures { option_copied result ≡ slice_get self.now.names object.0 }
     {
-        Some(self.names.get(object.0 as usize)?.as_str())
+        (object.0 < self.names.len()).then(|| self.names.text(object.0))
     }
 }

@@ -1,6 +1,6 @@
 // The words of a line.
 ghost use Rattle.std.specs.Prelude.{◌≡◌, map, take};
-ghost use Rattle.script_lang.specs.Lines.{is_blank, words_of, is_skipped};
+ghost use Rattle.script_lang.specs.Lines.{is_blank, line_words, is_skipped};
 
 use std::marker::Model;
 
@@ -33,7 +33,7 @@ fn is_blank(byte: u8) -> bool
 
 impl<'a> Words<'a> {
     pub(crate) fn of(line: &'a [u8]) -> Words<'a>
-        ensures { result ≡ take 7 (words_of line.now) }
+        ensures { result ≡ take 7 (line_words line.now) }
     {
         let mut words = [line; MOST];
         let mut count = 0;

@@ -5,24 +5,21 @@ use Rattle.std.proofs.lemmas.Iterator.Splits.{YieldsList-from_slice_split}
 use Rattle.std.proofs.lemmas.List.{drop_all, length_push}
 use Rattle.std.proofs.lemmas.Result.{err_from_is_err_and}
 use Rattle.script_lang.specs.declared.fault.ParseFault.TheVariants.{Text}
-use Rattle.script_lang.specs.Lines.{is_line_end, words_of}
-use Rattle.script_lang.specs.Listings.{nothing_read, after_lines, listing_of}
-use Rattle.script_lang.proofs.ListingsLemmas.{after_lines-parts, after_line-names}
-use Rattle.script_lang.proofs.ListingsLemmas.{next_line, bad_line}
+use Rattle.script_lang.specs.Lines.{is_line_end, line_words}
+use Rattle.script_lang.specs.Parsing.Reading.{after_lines}
+use Rattle.script_lang.proofs.ListingsLemmas.{after_parts, next_line, bad_line}
 use Rattle.script_lang.proofs.YieldsLemmas.{yielded_all, yielded_next}
 use Rattle.script_lang.proofs.parsing.parse.Goals as goal
 
 pub loop-text-init : goal.loop-text-init
-unfolding listing_of
 loop-text-init c =
     let parts = slice_split is_line_end c.args.bytes.now in
     record {
       can_next = search of_calls;
       is_finite = tt;
       line = refl;
-      names = rw c.new-reader.ensures (omega arith);
       rest = ap (λ listing. after_lines listing 1 parts) c.new-reader.ensures
-          ∙ after_lines-parts nothing_read 1 parts;
+          ∙ after_parts c.args.bytes.now parts refl;
     }
 
 pub loop-text-preserved : goal.loop-text-preserved
@@ -46,11 +43,6 @@ loop-text-preserved c =
         arith,
         length_push c.loop-text.yielded c.in-Some.text,
         c.loop-text.invariant.line,
-      );
-      names = omega (
-        arith,
-        c.loop-text.invariant.names,
-        after_line-names before (line + 1) (words_of c.in-Some.text.now) c.read_line.new.self read,
       );
       rest = sym (next_line before c.read_line.new.self (line + 1) line c.in-Some.text.now parts
           here.0 here.1 read)

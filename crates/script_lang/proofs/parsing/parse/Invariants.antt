@@ -1,7 +1,8 @@
-use Rattle.std.proofs.Common.{◌≡◌, ◌+◌, ◌≤◌, length, drop}
+use Rattle.std.proofs.Common.{◌≡◌, ◌+◌, length, drop}
 use Rattle.std.specs.List.{slice_split}
 use Rattle.script_lang.specs.Lines.{is_line_end}
-use Rattle.script_lang.specs.Listings.{after_lines, listing_of}
+use Rattle.script_lang.specs.Listings.{listing_of}
+use Rattle.script_lang.specs.Parsing.Reading.{after_lines}
 use Rattle.script_lang.proofs.parsing.parse.Given as goal
 
 -- what is left, read after what was read, comes to the whole
@@ -10,7 +11,6 @@ invariant-loop-text l = record {
   can_next : (goal.iterator-loop-text).can_next l.text-iterator;
   is_finite : (goal.iterator-loop-text).is_finite l.text-iterator;
   line : l.line ≡ length l.yielded;
-  names : length l.reader.names ≤ l.line;
   rest : after_lines l.reader (l.line + 1) (drop l.line (slice_split is_line_end l.bytes))
       ≡ listing_of l.bytes;
 }

@@ -1,23 +1,25 @@
-use Rattle.std.proofs.Common.{◌≡◌, ◌++◌, ◌∷◌, [], map, sym, ap, ◌∙◌, append-nil}
+use Rattle.std.proofs.Common.{◌≡◌, ◌++◌, ◌∷◌, [], map, sym, ap, ap₂, ◌∙◌, append-nil}
 use Rattle.std.specs.Option.{option_to_list}
-use Rattle.script_lang.specs.Listings.{name_made, listing_with}
-use Rattle.script_lang.specs.Names.{number_of}
-use Rattle.script_lang.proofs.CommandsLemmas.{new_name, listing_with-parts}
+use Rattle.text_table.specs.TextTables.{number_of}
+use Rattle.script_lang.specs.Commands.{line_command, names_made}
+use Rattle.script_lang.specs.Listings.{Listing}
+use Rattle.script_lang.specs.Parsing.Reading.{name_made, listing_with}
+use Rattle.script_lang.proofs.GrammarLemmas.{line_makes}
 use Rattle.script_lang.proofs.reader.Reader.push.Goals as goal
 use Rattle.script_lang.proofs.reader.Reader.push.Goals.{in-Some+in_ok-push, in_default}
 
 pub push-requires-clause-name : goal.push-requires-clause-name
 push-requires-clause-name c =
     let words = map (λ word. word.now) c.args.words.now in
-    (new_name c.args.self.now.names words c.args.placed.command c.requires.command
+    ((line_makes c.args.self.now.names words c.args.placed.command c.requires).new
     c.in-Some.name.now (sym c.in-Some.ensures)).0
 
 pub push-requires-clause-new : goal.push-requires-clause-new
 push-requires-clause-new c =
     let words = map (λ word. word.now) c.args.words.now in
     let name = c.in-Some.name.now in
-    ap (λ listing. number_of listing.names name) c.self.view_is
-    ∙ (new_name c.args.self.now.names words c.args.placed.command c.requires.command
+    ap (λ (listing : Listing). number_of listing.names name) c.self.view_is
+    ∙ ((line_makes c.args.self.now.names words c.args.placed.command c.requires).new
     name (sym c.in-Some.ensures)).1
 
 pub returns : goal.returns
@@ -26,6 +28,7 @@ returns c =
     let placed = c.args.placed in
     let before = c.self.inside in
     let after = c.match-name_made.self-inside in
+    let made = (line_makes c.args.self.now.names words placed.command c.requires).same in
     let commands : after.commands.items ≡ before.commands.items =
     elim c.match-name_made.branch [
       | in-Some+in_ok-push w ↦ ap (λ inside. inside.commands.items) w.self-inside-is
@@ -40,7 +43,7 @@ returns c =
           ∙ sym (append-nil before.names)
           ∙ ap (λ name. before.names ++ option_to_list name) w.in_default.ensures
     ] in
-    listing_with-parts (record { commands = before.commands.items; names = before.names })
-    c.push-2.new.self.items after.names placed words
-    (c.in_ok-push-2.ensures.items ∙ ap (λ cs. cs ++ placed ∷ []) commands) names
+    ap₂ (λ cs ns. record { commands = cs; names = ns })
+    (c.in_ok-push-2.ensures.items ∙ ap (λ cs. cs ++ placed ∷ []) commands)
+    (names ∙ ap (λ ns. before.names ++ ns) (sym made))
     ∙ ap (λ listing. listing_with listing placed.line words placed.command) c.self.view_is

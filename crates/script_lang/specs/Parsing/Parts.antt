@@ -1,6 +1,4 @@
--- What do the names, the numbers and the act of a command stand for, or what is their fault?
---
--- `names` are those of the objects that the lines above make, in order.
+-- What do a name, a number, a set and an act stand for, one after the other, or what is their fault?
 use Rattle.std.specs.Prelude.{ℕ, List, codes, if◌then◌else◌, Some, None, Result, Ok, Err}
 use Rattle.std.specs.declared.option.Option.{Option}
 use Rattle.std.specs.Option.{option_map, ok_or, is_some}
@@ -13,7 +11,7 @@ use Rattle.script_lang.specs.declared.fault.ScriptKind.TheVariants.{NameUnknown,
 use Rattle.script_lang.specs.declared.word32.Act.{Act}
 use Rattle.script_lang.specs.declared.word32.Act.TheVariants.{Add, Mul, Set, Give}
 use Rattle.script_lang.specs.declared.word32.Deed.{Deed}
-use Rattle.script_lang.specs.Names.{number_of}
+use Rattle.text_table.specs.TextTables.{number_of}
 use Rattle.script_lang.specs.Tokens.{is_name, number_value, set_value}
 
 -- the next step, unless this one has a fault
@@ -39,9 +37,9 @@ unfoldable pub number : List ℕ → Result ℕ ScriptKind
 number word = ok_or (number_value word) BadNumber
 
 -- the SET behind `in`; without it 0
-unfoldable pub own_set : Option (List ℕ) → Result ℕ ScriptKind
-own_set None = Ok 0
-own_set (Some word) = ok_or (set_value word) BadNumber
+unfoldable pub set_behind : Option (List ℕ) → Result ℕ ScriptKind
+set_behind None = Ok 0
+set_behind (Some word) = ok_or (set_value word) BadNumber
 
 -- the act of a word, and of a number behind it or none; none where no act is spelt so
 unfoldable pub act_of : List ℕ → Option (List ℕ) → Option (Result Act ScriptKind)
@@ -56,5 +54,5 @@ act_of word (Some text) =
 unfoldable pub deed_of : Result Act ScriptKind → Option (List ℕ) → Result Deed ScriptKind
 deed_of act set = do
   act ← act
-  set ← own_set set
+  set ← set_behind set
   Ok (record { act = act; set = set })
