@@ -1,20 +1,19 @@
 // A script on a runtime.
 ghost use Rattle.std.specs.Prelude.{◌≡◌, [], ◌∷◌, ◌++◌, Some, Err, IfOk, OnOk, decimal};
-ghost use Rattle.delegation.specs.declared.call.Fault.TheVariants.{Refused};
+ghost use Rattle.execution_definitions.specs.Programs.{sound_front};
 ghost use Rattle.execution_definitions.specs.Sequential.{reply_of};
+ghost use Rattle.delegation.specs.declared.call.Fault.TheVariants.{Refused};
 ghost use Rattle.delegation.specs.Runtimes.{IsAfter};
 ghost use Rattle.delegation.specs.Answers.{AnswersEachList};
-ghost use Rattle.execution_definitions.specs.Programs.{sound_front};
-ghost use Rattle.script_lang.specs.ScriptCalls.{call_of, calls_of};
-ghost use Rattle.script_lang.specs.Parsing.Epochs.{is_open_after};
 ghost use Rattle.script_lang.specs.Acts.{script_meaning};
+ghost use Rattle.script_lang.specs.ScriptCalls.{call_of, calls_of};
 ghost use Rattle.script_lang.specs.ScriptAnswers.{value_line, total_line};
 ghost use Rattle.script_lang.specs.ScriptAnswers.{shown_line, shown_of};
 
 use crate::command::Command;
-use crate::script::{Script, is_open_after};
+use crate::script::{Script, call_of, is_open_after};
 use crate::word32::Word32;
-use delegation::{Delegation, Fault};
+use delegation::{Delegation, Fault, Reply, make_call};
 use execution_definitions::Refusal;
 use itoa::Buffer;
 use ss_base::OutOfMemory;
@@ -69,9 +68,29 @@ fn push_total(text: &mut Vec<u8>, value: u64) -> Result<(), OutOfMemory>
     push_number(text, value)
 }
 
+// Appends what a command shows with its reply.
+fn push_shown(
+    text: &mut Vec<u8>,
+    script: &Script,
+    command: Command,
+    reply: &Reply<Word32>,
+) -> Result<(), OutOfMemory>
+    ensures { OnOk result (text.new.items ≡ text.old.items
+        ++ shown_line script.now.names (call_of command) (Some reply.now)) }
+{
+    match (command, reply) {
+        (Command::Get { object }, Reply::Value(word)) => {
+            push_value(text, script.name(object).unwrap_or(""), word.0)
+        }
+        (Command::Total, Reply::Total(total)) => push_total(text, total.0),
+        _ => Ok(()),
+    }
+}
+
 // Makes the call of a command, and appends what it shows. A refused call shows nothing.
 fn run_command<D: Delegation<Word32>, R: Threads + Wait + Copy + Send + Sync + 'static>(
     rt: &R,
+    alloc: Global,
     d: &mut D,
     script: &Script,
     command: Command,
@@ -85,33 +104,8 @@ fn run_command<D: Delegation<Word32>, R: Threads + Wait + Copy + Send + Sync + '
     ensures refused { (refusal : Refusal) → result ≡ Err (Refused refusal)
         → text.new.items ≡ text.old.items }
 {
-    match command {
-        Command::Make { value, by } => {
-            d.make(Word32(value), by)?;
-        }
-        Command::MakeFixed { value } => {
-            d.make_fixed(Word32(value))?;
-        }
-        Command::Begin => d.begin()?,
-        Command::End => d.end(rt)?,
-        Command::Delegate {
-            object,
-            deed,
-            reading,
-        } => {
-            d.delegate(rt, object, deed, reading)?;
-        }
-        Command::Write { object, deed } => d.call(rt, object, deed)?,
-        Command::Get { object } => {
-            let value = d.get(rt, object)?.0;
-            let name = script.name(object).unwrap_or("");
-            push_value(text, name, value).or(Err(Fault::OutOfMemory))?;
-        }
-        Command::Total => {
-            let total = d.total()?.0;
-            push_total(text, total).or(Err(Fault::OutOfMemory))?;
-        }
-    }
+    let reply = make_call(rt, alloc, d, call_of(command))?;
+    push_shown(text, script, command, &reply)?;
     Ok(())
 }
 
@@ -148,13 +142,13 @@ pub fn run_script<D: Delegation<Word32>, R: Threads + Wait + Copy + Send + Sync 
     let mut text = Vec::new(alloc);
     let mut is_open = false;
     for placed in script.commands() {
-        match run_command(rt, d, script, placed.command, &mut text) {
+        match run_command(rt, alloc, d, script, placed.command, &mut text) {
             Ok(()) => is_open = is_open_after(placed.command, is_open),
             Err(fault) => return shown_until(text, placed.line, fault),
         }
     }
     if is_open {
-        match run_command(rt, d, script, Command::End, &mut text) {
+        match run_command(rt, alloc, d, script, Command::End, &mut text) {
             Ok(()) => {}
             // Of all calls this one stands on no line.
             Err(fault) => return shown_until(text, 0, fault),
