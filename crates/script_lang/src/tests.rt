@@ -190,6 +190,33 @@ fn the_first_bad_line_is_told_wherever_it_stands(rt: HostRuntime) -> Result<(), 
     Ok(())
 }
 
+// Each kind of fault, with its text.
+const KINDS: [(ScriptKind, &str); 6] = [
+    (ScriptKind::UnknownCommand, "unknown command"),
+    (ScriptKind::BadShape, "wrong words for this command"),
+    (ScriptKind::BadName, "bad name"),
+    (ScriptKind::NameTaken, "name is taken"),
+    (ScriptKind::NameUnknown, "unknown name"),
+    (ScriptKind::BadNumber, "bad number"),
+];
+
+#[test]
+fn faults_tell_the_line_and_what_is_wrong(rt: HostRuntime) -> Result<(), Fail> {
+    let alloc = rt.alloc();
+    for (kind, text) in &KINDS {
+        let fault = ParseFault::Text(ScriptFault {
+            line: 7,
+            kind: *kind,
+        });
+        let told = format!(in alloc; "{kind}; {fault}")?;
+        let wanted = format!(in alloc; "{text}; line 7: {text}")?;
+        assert_eq!(rt; told.as_str(), wanted.as_str());
+    }
+    let fault = ParseFault::OutOfMemory;
+    assert_eq!(rt; format!(in alloc; "{fault}")?.as_str(), "out of memory");
+    Ok(())
+}
+
 #[test]
 fn calls_have_lines_and_objects_names(rt: HostRuntime) -> Result<(), Fail> {
     let alloc = rt.alloc();
