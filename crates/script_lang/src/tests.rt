@@ -284,7 +284,7 @@ const PRIVATE: Refusal = Refusal::Private {
 };
 
 // Scripts, with what they show, and the line and the refusal that they stop at.
-const SHOWN: [(&str, &str, Option<(u32, Refusal)>); 16] = [
+const SHOWN: [(&str, &str, Option<(u32, Refusal)>); 19] = [
     ("", "", None),
     (
         "object x 5\nisolate\ndo x add 3\ndo x mul 2\njoin\nshow x\n",
@@ -350,6 +350,21 @@ const SHOWN: [(&str, &str, Option<(u32, Refusal)>); 16] = [
         "object x 5\nobject y 6\nisolate\ndo x add 1\ndo y add 1\ndo x mul 2\njoin\nshow x\n",
         "x 12\n",
         None,
+    ),
+    (
+        "object x 5 own\nisolate\ndo x add 1 in 1\nshow x\ndo x mul 2 in 2\nshow x\njoin\n",
+        "x 6\nx 12\n",
+        None,
+    ),
+    (
+        "object x 2\nobject y 3\nisolate\ndo y add 1\nshow y\nmix x y\njoin\nshow x\n",
+        "y 4\nx 66\n",
+        None,
+    ),
+    (
+        "object x 2\nobject y 3\nisolate\nmix x y\nshow y\ndo y add 1\n",
+        "y 3\n",
+        Some((6, Refusal::Shared(ObjectId(1)))),
     ),
     (
         "object x 4294967295\n# one\nisolate\nshow x\n\ntotal\nshow x\n",
