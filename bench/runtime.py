@@ -18,7 +18,7 @@ from measure import HERE, cargo_program
 
 SOURCES = pathlib.Path(HERE) / "runtime"
 CRATE = "runtime_bench"
-DEPENDENCIES = "ss_base execution_definitions class_laws partition_check delegation runtime_tests"
+DEPENDENCIES = "ss_base execution_definitions class_laws partition_check delegation script_lang"
 
 # What is shown: a part's text, its name in either program, and its unit with the nanoseconds that it has.
 NS = ("ns", 1)

@@ -1,13 +1,13 @@
 // The table: programs, with what each call is answered and what is left at the end.
 
-use crate::number::Act;
-use crate::number::Act::*;
 use Answer::*;
 use Step::*;
 use execution_definitions::{By, Refusal};
+use script_lang::Act;
+use script_lang::Act::*;
 
-/// A call, with plain numbers for objects and sets. A delegation has an act, the set that it names
-/// and the object that it reads.
+/// A call on words, with plain numbers for objects and sets. A delegation has an act, the set that
+/// it names and the object that it reads.
 #[derive(Clone, Copy)]
 pub enum Step {
     Make(u32, By),
@@ -169,6 +169,51 @@ pub const CASES: &[Case] = &[
         runs: &[(2, 1, 0, 0), (4, 1, 0, 0)],
     },
     Case {
+        name: "a get frees an object for another set",
+        calls: &[
+            (Make(5, By::Own), Made(0)),
+            (Begin, Done),
+            (Delegate(0, Add(1), 1, None), Sent(2)),
+            (Get(0), Value(6)),
+            (Delegate(0, Mul(2), 2, None), Sent(4)),
+            (Get(0), Value(12)),
+            (End, Done),
+        ],
+        values: &[12],
+        total: 0,
+        runs: &[(2, 1, 1, 0), (4, 1, 2, 0)],
+    },
+    Case {
+        name: "a get frees an object for a reader",
+        calls: &[
+            (Make(2, By::Object), Made(0)),
+            (Make(3, By::Object), Made(1)),
+            (Begin, Done),
+            (Delegate(1, Add(1), 0, None), Sent(3)),
+            (Get(1), Value(4)),
+            (Delegate(0, Mix, 0, Some(1)), Sent(5)),
+            (End, Done),
+            (Get(0), Value(66)),
+        ],
+        values: &[66, 4],
+        total: 0,
+        runs: &[(3, 1, 1, 1), (5, 1, 0, 0)],
+    },
+    Case {
+        name: "a get leaves an object to those that read it",
+        calls: &[
+            (Make(2, By::Object), Made(0)),
+            (Make(3, By::Object), Made(1)),
+            (Begin, Done),
+            (Delegate(0, Mix, 0, Some(1)), Sent(3)),
+            (Get(1), Value(3)),
+            (Delegate(1, Add(1), 0, None), Shared(1)),
+        ],
+        values: &[65, 3],
+        total: 0,
+        runs: &[(3, 1, 0, 0)],
+    },
+    Case {
         name: "an object is read as it stands at the call, in each epoch anew",
         calls: &[
             (Make(2, By::Object), Made(0)),
@@ -308,5 +353,43 @@ pub const CASES: &[Case] = &[
         values: &[6],
         total: 0,
         runs: &[(2, 1, 0, 0)],
+    },
+];
+
+/// Calls that are made as a list, with their replies up to the first that is refused.
+pub struct Listed {
+    pub name: &'static str,
+    pub calls: &'static [Step],
+    pub replies: &'static [Answer],
+    /// What the next call is answered, which is refused.
+    pub stopped: Option<Answer>,
+}
+
+pub const LISTS: &[Listed] = &[
+    Listed {
+        name: "the list ends at the first call that is refused",
+        calls: &[
+            Make(5, By::Own),
+            Begin,
+            Delegate(0, Add(1), 1, None),
+            Delegate(0, Add(1), 2, None),
+            Delegate(0, Add(1), 1, None),
+            End,
+        ],
+        replies: &[Made(0), Done, Sent(2)],
+        stopped: Some(TwoSets(0, 1, 2)),
+    },
+    Listed {
+        name: "values and totals are replies",
+        calls: &[
+            Make(7, By::Object),
+            MakeFixed(2),
+            Write(0, Mul(3)),
+            Write(0, Give),
+            Get(0),
+            Total,
+        ],
+        replies: &[Made(0), Made(1), Done, Done, Value(21), Sum(21)],
+        stopped: None,
     },
 ];

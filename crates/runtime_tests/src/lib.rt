@@ -6,10 +6,10 @@
 
 #[cfg(test)]
 mod cases;
-mod number;
+mod scarce;
 #[cfg(test)]
 mod tests;
 #[cfg(test)]
 mod texts;
 
-pub use number::{Act, Number, Op};
+pub use scarce::{Need, Scarce};

@@ -1,12 +1,13 @@
 // The table gone through with each runtime, and what doesn't fit a table.
 ghost use Rattle.std.specs.Prelude.{[]};
 ghost use Rattle.delegation.specs.Runtimes.{IsAfter};
-ghost use Rattle.runtime_tests.specs.Numbers.{number_meaning};
+ghost use Rattle.script_lang.specs.Acts.{script_meaning};
 
-use crate::cases::{Answer, CASES, Case, Step, refused};
-use crate::number::{Act, Number, Op};
-use delegation::{Call, Delegation, Fault, Plain, Reply, run_calls};
-use execution_definitions::{By, Refusal};
+use crate::cases::{Answer, CASES, Case, LISTS, Listed, Step, refused};
+use crate::scarce::{Need, Scarce};
+use delegation::{Call, Delegation, Fault, Plain, Reply, make_call, run_calls};
+use execution_definitions::By;
+use script_lang::{Act, Deed, Word32};
 use serializer::lane_of;
 use ss_base::{CallNo, LaneLog, ObjectId, Run, SetId};
 use std::alloc::Global;
@@ -15,64 +16,64 @@ use std::sync::Wait;
 use std::test::Fail;
 use std::thread::Threads;
 
-fn of_fault(fault: Fault) -> Answer {
+fn deed(act: Act, set: u64) -> Deed {
+    Deed { act, set }
+}
+
+fn call_of(step: Step) -> Call<Word32> {
+    match step {
+        Step::Make(value, by) => Call::Make {
+            value: Word32(value),
+            by,
+        },
+        Step::MakeFixed(value) => Call::MakeFixed {
+            value: Word32(value),
+        },
+        Step::Begin => Call::Begin,
+        Step::Delegate(object, act, set, reading) => Call::Delegate {
+            object: ObjectId(object),
+            op: deed(act, set),
+            reading: reading.map(ObjectId),
+        },
+        Step::Write(object, act) => Call::Write {
+            object: ObjectId(object),
+            op: deed(act, 0),
+        },
+        Step::Get(object) => Call::Get {
+            object: ObjectId(object),
+        },
+        Step::End => Call::End,
+        Step::Total => Call::Total,
+    }
+}
+
+fn told(reply: &Reply<Word32>) -> Answer {
+    match reply {
+        Reply::Made(object) => Answer::Made(object.0),
+        Reply::Sent(call) => Answer::Sent(call.0),
+        Reply::Value(word) => Answer::Value(word.0),
+        Reply::Total(total) => Answer::Sum(total.0),
+        Reply::Done => Answer::Done,
+    }
+}
+
+fn why(fault: Fault) -> Answer {
     match fault {
         Fault::Refused(refusal) => refused(refusal),
         Fault::OutOfMemory => Answer::OutOfMemory,
     }
 }
 
-fn done(answered: Result<(), Fault>) -> Answer {
-    match answered {
-        Ok(()) => Answer::Done,
-        Err(fault) => of_fault(fault),
-    }
-}
-
-fn made(answered: Result<ObjectId, Fault>) -> Answer {
-    match answered {
-        Ok(object) => Answer::Made(object.0),
-        Err(fault) => of_fault(fault),
-    }
-}
-
-fn op(act: Act, set: u64) -> Op {
-    Op { act, set }
-}
-
-fn object(number: Option<u32>) -> Option<ObjectId> {
-    match number {
-        Some(number) => Some(ObjectId(number)),
-        None => None,
-    }
-}
-
 // Makes the call and gives its answer.
-fn answer<D: Delegation<Number>, R: Threads + Wait + Copy + Send + Sync + 'static>(
+fn answer<D: Delegation<Word32>, R: Threads + Wait + Copy + Send + Sync + 'static>(
     rt: &R,
+    alloc: Global,
     d: &mut D,
     step: Step,
 ) -> Answer {
-    match step {
-        Step::Make(value, by) => made(d.make(Number(value), by)),
-        Step::MakeFixed(value) => made(d.make_fixed(Number(value))),
-        Step::Begin => done(d.begin()),
-        Step::Delegate(o, act, set, reading) => {
-            match d.delegate(rt, ObjectId(o), op(act, set), object(reading)) {
-                Ok(call) => Answer::Sent(call.0),
-                Err(fault) => of_fault(fault),
-            }
-        }
-        Step::Write(o, act) => done(d.call(rt, ObjectId(o), op(act, 0))),
-        Step::Get(o) => match d.get(rt, ObjectId(o)) {
-            Ok(value) => Answer::Value(value.0),
-            Err(fault) => of_fault(fault),
-        },
-        Step::End => done(d.end(rt)),
-        Step::Total => match d.total() {
-            Ok(total) => Answer::Sum(total.0),
-            Err(fault) => of_fault(fault),
-        },
+    match make_call(rt, alloc, d, call_of(step)) {
+        Ok(reply) => told(&reply),
+        Err(fault) => why(fault),
     }
 }
 
@@ -97,16 +98,26 @@ fn is_log_of(log: &LaneLog, case: &Case, lane: usize, delegates: u32) -> bool {
     runs.next().is_none()
 }
 
+// How many logs so many delegates keep.
+fn log_count(delegates: u32) -> usize {
+    if delegates == 0 {
+        1
+    } else {
+        delegates as usize
+    }
+}
+
 // Goes through a case with a new runtime.
-fn passes<D: Delegation<Number>, R: Threads + Wait + Abort + Copy + Send + Sync + 'static>(
+fn passes<D: Delegation<Word32>, R: Threads + Wait + Abort + Copy + Send + Sync + 'static>(
     rt: &R,
+    alloc: Global,
     mut d: D,
     delegates: u32,
     case: &Case,
 ) {
     for (place, (step, wanted)) in case.calls.iter().enumerate() {
         assert_eq!(rt;
-            answer(rt, &mut d, *step),
+            answer(rt, alloc, &mut d, *step),
             *wanted,
             "{}, call {place}",
             case.name
@@ -120,6 +131,7 @@ fn passes<D: Delegation<Number>, R: Threads + Wait + Abort + Copy + Send + Sync 
         assert_eq!(rt; value.0, *wanted, "{}, object {object}", case.name);
     }
     assert_eq!(rt; end.total.0, case.total, "{}", case.name);
+    assert_eq!(rt; end.logs.len(), log_count(delegates), "{}", case.name);
     for (lane, log) in end.logs.iter().enumerate() {
         assert!(rt;
             is_log_of(log, case, lane, delegates),
@@ -129,91 +141,93 @@ fn passes<D: Delegation<Number>, R: Threads + Wait + Abort + Copy + Send + Sync 
     }
 }
 
-// An operation finds no memory: by the epoch's end the runtime says so, and from then on.
-fn fails_for_good<D: Delegation<Number>, R: Threads + Wait + Abort + Copy + Send + Sync + 'static>(
-    rt: &R,
-    mut d: D,
-) {
-    assert_eq!(rt;
-        answer(rt, &mut d, Step::Make(5, By::Object)),
-        Answer::Made(0)
-    );
-    assert_eq!(rt; answer(rt, &mut d, Step::Begin), Answer::Done);
-    let _ = answer(rt, &mut d, Step::Delegate(0, Act::Fail, 0, None));
-    for step in [
-        Step::End,
-        Step::Get(0),
-        Step::Get(9),
-        Step::Make(5, By::Object),
-        Step::MakeFixed(5),
-        Step::Begin,
-        Step::Delegate(0, Act::Add(1), 0, None),
-        Step::Write(0, Act::Add(1)),
-        Step::Total,
-    ] {
-        assert_eq!(rt; answer(rt, &mut d, step), Answer::OutOfMemory);
-    }
-    assert!(rt; d.finish(rt).is_err());
-}
-
 // A list of calls is made up to the first that is refused.
-fn runs_a_list<D: Delegation<Number>, R: Threads + Wait + Abort + Copy + Send + Sync + 'static>(
+fn runs_a_list<D: Delegation<Word32>, R: Threads + Wait + Abort + Copy + Send + Sync + 'static>(
     rt: &R,
     alloc: Global,
     d: &mut D,
+    list: &Listed,
 ) -> Result<(), Fail>
-    requires { IsAfter number_meaning (D.seen d.old) [] }
+    requires { IsAfter script_meaning (D.seen d.old) [] }
 {
-    let add = |set: u64| -> Call<Number> {
-        Call::Delegate {
-            object: ObjectId(0),
-            op: op(Act::Add(1), set),
-            reading: None,
-        }
-    };
-    let make = Call::Make {
-        value: Number(5),
-        by: By::Own,
-    };
-    let get = Call::Get {
-        object: ObjectId(0),
-    };
-    let calls = vec![in alloc; make, Call::Begin, add(1), get, add(2), Call::End]?;
+    let mut calls = Vec::new(alloc);
+    for step in list.calls {
+        calls.push(call_of(*step))?;
+    }
     let ran = run_calls(rt, alloc, d, calls)?;
-    let told = ran.replies.as_slice();
-    assert_eq!(rt; told.len(), 4);
-    assert!(rt; matches!(&told[0], Reply::Made(ObjectId(0))));
-    assert!(rt; matches!(&told[1], Reply::Done));
-    assert!(rt; matches!(&told[2], Reply::Sent(CallNo(2))));
-    assert!(rt; matches!(&told[3], Reply::Value(Number(6))));
-    let second = Refusal::TwoSets {
-        object: ObjectId(0),
-        first: SetId(1),
-        second: SetId(2),
-    };
-    assert_eq!(rt; ran.stopped, Some(second));
-    assert_eq!(rt; answer(rt, d, Step::Get(0)), Answer::Value(6));
+    assert_eq!(rt; ran.replies.len(), list.replies.len(), "{}", list.name);
+    for (place, (reply, wanted)) in ran.replies.iter().zip(list.replies).enumerate() {
+        assert_eq!(rt; told(reply), *wanted, "{}, call {place}", list.name);
+    }
+    assert_eq!(rt; ran.stopped.map(refused), list.stopped, "{}", list.name);
     Ok(())
+}
+
+fn outcome<T: Drop>(answered: Result<T, Fault>) -> Answer {
+    match answered {
+        Ok(_) => Answer::Done,
+        Err(fault) => why(fault),
+    }
+}
+
+// Every call of a runtime that found no memory is answered so, also one that else is refused.
+fn has_failed<D: Delegation<Scarce>, R: Threads + Wait + Abort + Copy + Send + Sync + 'static>(
+    rt: &R,
+    d: &mut D,
+) {
+    for answered in [
+        outcome(d.end(rt)),
+        outcome(d.get(rt, ObjectId(0))),
+        outcome(d.get(rt, ObjectId(9))),
+        outcome(d.make(Scarce(5), By::Object)),
+        outcome(d.make_fixed(Scarce(5))),
+        outcome(d.begin()),
+        outcome(d.delegate(rt, ObjectId(0), Need::Nothing, None)),
+        outcome(d.call(rt, ObjectId(0), Need::Nothing)),
+        outcome(d.total()),
+    ] {
+        assert_eq!(rt; answered, Answer::OutOfMemory);
+    }
+}
+
+// An operation finds no memory: by the epoch's end the runtime says so, and from then on. `at_once`
+// is what the delegation itself is answered.
+fn fails_for_good<D: Delegation<Scarce>, R: Threads + Wait + Abort + Copy + Send + Sync + 'static>(
+    rt: &R,
+    mut d: D,
+    at_once: Answer,
+) {
+    assert_eq!(rt; outcome(d.make(Scarce(5), By::Object)), Answer::Done);
+    assert_eq!(rt; outcome(d.begin()), Answer::Done);
+    let enough = d.delegate(rt, ObjectId(0), Need::Nothing, None);
+    assert_eq!(rt; outcome(enough), Answer::Done);
+    let too_much = d.delegate(rt, ObjectId(0), Need::TooMuch, None);
+    assert_eq!(rt; outcome(too_much), at_once);
+    has_failed(rt, &mut d);
+    assert!(rt; d.finish(rt).is_err());
 }
 
 #[test]
 fn plain_passes_all_cases(rt: HostRuntime) -> Result<(), Fail> {
     for case in CASES {
-        passes(&rt, Plain::new(rt.alloc())?, 0, case);
+        passes(&rt, rt.alloc(), Plain::new(rt.alloc())?, 0, case);
+    }
+    Ok(())
+}
+
+#[test]
+fn plain_runs_lists(rt: HostRuntime) -> Result<(), Fail> {
+    for list in LISTS {
+        let mut d = Plain::new(rt.alloc())?;
+        runs_a_list(&rt, rt.alloc(), &mut d, list)?;
     }
     Ok(())
 }
 
 #[test]
 fn plain_fails_for_good(rt: HostRuntime) -> Result<(), Fail> {
-    fails_for_good(&rt, Plain::new(rt.alloc())?);
+    fails_for_good(&rt, Plain::new(rt.alloc())?, Answer::OutOfMemory);
     Ok(())
-}
-
-#[test]
-fn plain_runs_a_list(rt: HostRuntime) -> Result<(), Fail> {
-    let mut d = Plain::new(rt.alloc())?;
-    runs_a_list(&rt, rt.alloc(), &mut d)
 }
 
 #[test]
@@ -225,7 +239,7 @@ fn plain_shows_what_ran(rt: HostRuntime) -> Result<(), Fail> {
         Step::Begin,
         Step::Delegate(0, Act::Add(1), 0, None),
     ] {
-        let _ = answer(&rt, &mut d, step);
+        let _ = answer(&rt, rt.alloc(), &mut d, step);
     }
     let log = &d.runs()[0];
     assert_eq!(rt; log.runs.len(), 1);
