@@ -7,7 +7,7 @@ use Rattle.std.specs.List.{list_any}
 use Rattle.std.specs.Str.{bytes_eq}
 use Rattle.std.proofs.lemmas.Map.Text.{is_eq-slice_cmp}
 use Rattle.std.proofs.lemmas.Slice.Eq.{bytes_eq-Decides}
-use Rattle.class_laws.specs.Counts.{text_order}
+use Rattle.text_table.specs.TextMaps.{text_order}
 
 -- a look-up among items whose values hang on their keys
 pub find_keyed :

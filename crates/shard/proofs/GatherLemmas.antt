@@ -22,8 +22,8 @@ use Rattle.index_definitions.specs.PostingLists.{PostingList, last_document}
 use Rattle.index_definitions.proofs.GreatestLemmas.{greatest, from-le}
 use Rattle.index_definitions.proofs.ListsLemmas.{list_any-map}
 use Rattle.text_table.specs.TextTables.{AreDistinct}
-use Rattle.class_laws.specs.Counts.{text_order}
-use Rattle.class_laws.specs.Laws.Counts.{text_order_total, text_order_exact}
+use Rattle.text_table.specs.TextMaps.{text_order}
+use Rattle.text_table.proofs.TextMapsLemmas.{text_order_total, text_order_exact}
 use Rattle.document_terms.specs.Shards.{shard_of}
 use Rattle.document_terms.specs.Counted.{AreTermsOf}
 use Rattle.shard.specs.Shards.{TermLists, ShardParts, list_of, last_in, comes_last}

@@ -11,22 +11,13 @@ use Rattle.index_definitions.specs.Words.{Word, word_terms, positions_of}
 use Rattle.index_definitions.specs.PostingLists.{PostingList, last_document}
 use Rattle.index_definitions.proofs.GreatestLemmas.{greatest, greatest-max}
 use Rattle.index_definitions.proofs.NumberedLemmas.{enumerate_from-push}
-use Rattle.class_laws.specs.Counts.{text_order}
-use Rattle.class_laws.specs.Laws.Counts.{text_order_total}
+use Rattle.text_table.specs.TextMaps.{text_order}
+use Rattle.text_table.proofs.TextMapsLemmas.{text_order_total}
 use Rattle.shard.specs.Shards.{TermLists, ShardParts, empty_shard, list_of, last_in}
 use Rattle.shard.specs.Shards.{comes_last, with_document, with_terms, gathered}
-use Rattle.shard.specs.Shards.{gathered_last, words_of_shard}
+use Rattle.shard.specs.Shards.{gathered_last, words_of_shard, after_document, shard_after}
 use Rattle.shard.proofs.ShardLemmas.{last_document-push, entry_last, last_in-from}
 use Rattle.shard.proofs.GatherLemmas.{gathered-later}
-
--- the shard after a document with its number
-abbrev pub after_document : ShardParts → ℕ × List Word → ShardParts
-after_document shard document = gathered_last shard document.0 document.1
-
--- the shard with this number after the documents with these words, in their order
-abbrev pub shard_after : ℕ → List (List Word) → ShardParts
-shard_after number words_lists =
-    fold after_document (empty_shard number) (enumerate_from 1 words_lists)
 
 -- ---- one document more
 

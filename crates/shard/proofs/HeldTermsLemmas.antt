@@ -22,12 +22,13 @@ use Rattle.index_definitions.specs.Index.{by_document}
 use Rattle.index_definitions.proofs.ListsLemmas.{list_any-map}
 use Rattle.index_definitions.proofs.PostingsLemmas.{counted_all, posting_list}
 use Rattle.index_definitions.proofs.PostingsLemmas.{terms-postings, by_document-documents}
-use Rattle.class_laws.specs.Counts.{text_order}
+use Rattle.text_table.specs.TextMaps.{text_order}
 use Rattle.document_terms.specs.Shards.{shard_of}
 use Rattle.shard.specs.Shards.{ShardParts, empty_shard, list_of, last_in}
 use Rattle.shard.specs.Shards.{gathered, words_of_shard}
 use Rattle.shard.proofs.GatherLemmas.{belongs, get-with_terms, gathered-later}
-use Rattle.shard.proofs.HeldLemmas.{after_document, shard_after, with_terms-last, empty_last}
+use Rattle.shard.specs.Shards.{after_document, shard_after}
+use Rattle.shard.proofs.HeldLemmas.{with_terms-last, empty_last}
 
 -- a term of the words
 abbrev in_words : List ℕ → List Word → Bool

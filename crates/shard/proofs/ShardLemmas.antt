@@ -20,8 +20,8 @@ use Rattle.index_definitions.specs.PostingLists.{PostingList, last_document}
 use Rattle.index_definitions.proofs.GreatestLemmas.{greatest, greatest-max}
 use Rattle.text_table.specs.TextTables.{number_of, AreDistinct}
 use Rattle.text_table.proofs.TextTablesLemmas.{nowhere-from_none}
-use Rattle.class_laws.specs.Counts.{text_order}
-use Rattle.class_laws.specs.Laws.Counts.{text_order_total, text_order_exact}
+use Rattle.text_table.specs.TextMaps.{text_order}
+use Rattle.text_table.proofs.TextMapsLemmas.{text_order_total, text_order_exact}
 use Rattle.shard.specs.Shards.{TermLists, list_of, last_in}
 use Rattle.shard.specs.kept.ShardTables.{lists_from, last_of}
 

@@ -15,7 +15,7 @@ use Rattle.index_definitions.specs.PostingLists.{PostingList}
 use Rattle.index_definitions.specs.Index.{TermRecord}
 use Rattle.index_definitions.specs.Indexes.{texts_of}
 use Rattle.text_table.specs.TextTables.{AreDistinct}
-use Rattle.class_laws.specs.Counts.{text_order}
+use Rattle.text_table.specs.TextMaps.{text_order}
 use Rattle.shard.specs.ShardTerms.{IsTermOfShard, HasTermsOfShard}
 use Rattle.shard.specs.kept.ShardTables.{ArePaired, lists_from}
 use Rattle.shard.proofs.ShardLemmas.{find-place, get-lists_from}

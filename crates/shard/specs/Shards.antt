@@ -2,12 +2,13 @@
 use Rattle.std.specs.Prelude.{ℕ, ◌==◌, Bool, nat_lt, List, [], ◌∷◌, ◌++◌, map, filter, max, fold}
 use Rattle.std.specs.Prelude.{refl, if◌then◌else◌}
 use Rattle.std.specs.Coded.{Coded, code_by, coded×, coded_ℕ, coded_list}
+use Rattle.std.specs.List.{enumerate_from}
 use Rattle.std.specs.FinMap as finite
 use Rattle.std.specs.FinMap.{FinMap}
 use Rattle.std.specs.Option.{unwrap_or}
 use Rattle.index_definitions.specs.Words.{Word, word_terms, positions_of}
 use Rattle.index_definitions.specs.PostingLists.{PostingList, last_document}
-use Rattle.class_laws.specs.Counts.{text_order}
+use Rattle.text_table.specs.TextMaps.{text_order}
 use Rattle.document_terms.specs.Shards.{shard_of}
 
 -- a finite map from terms to their posting lists
@@ -78,3 +79,12 @@ gathered shard document words = record {
 abbrev pub gathered_last : ShardParts → ℕ → List Word → ShardParts
 gathered_last shard document words =
     if comes_last shard.lists document then gathered shard document words else shard
+
+-- the shard after a document with its number
+abbrev pub after_document : ShardParts → ℕ × List Word → ShardParts
+after_document shard document = gathered_last shard document.0 document.1
+
+-- the shard with this number after the documents with these words, which count from 1
+abbrev pub shard_after : ℕ → List (List Word) → ShardParts
+shard_after number words_lists =
+    fold after_document (empty_shard number) (enumerate_from 1 words_lists)
