@@ -1,10 +1,11 @@
 -- The index from the terms of the sixteen shards.
 use Rattle.std.proofs.Common.{◌≡◌, ℕ, ◌+◌, ◌%◌, ◌^◌, ◌<◌, ◌≤◌, List, [], ◌∷◌, ◌++◌, length, get_or}
 use Rattle.std.proofs.Common.{map, Bool, true, false, cond, Some, None, refl, sym, subst, ap, ◌∙◌}
-use Rattle.std.proofs.Common.{arith, append-nil}
+use Rattle.std.proofs.Common.{arith, append-nil, ap₂, ⊎_elim}
 use Rattle.std.specs.Prelude.{◌==◌, ◌&&◌, is_some}
 use Rattle.std.specs.List.{All, flat_map}
 use Rattle.std.specs.List.Sorted.{IsPermutation, IsStrictlySortedBy}
+use Rattle.std.proofs.lemmas.Bool.{cases_lt}
 use Rattle.std.proofs.lemmas.Bool.Decides.{nat_tests}
 use Rattle.std.proofs.lemmas.Grind.{flat_map-append}
 use Rattle.std.proofs.lemmas.List.{length_push, get_or_append_left, get_or_push, get_or-map}
@@ -23,22 +24,22 @@ use Rattle.class_laws.specs.Counts.{Counts, text_order, count_of}
 use Rattle.index_definitions.specs.Indexes.{texts_of}
 use Rattle.shard.specs.ShardTerms.{IsTermOfShard, HasTermsOfShard, AppendsTermsOfShard}
 use Rattle.indexer.specs.Collected.{CollectsTerms, with_count}
-use Rattle.shard.proofs.HeldLemmas.{shard_after}
-use Rattle.shard.specs.Shards.{ShardParts}
+use Rattle.shard.specs.Shards.{ShardParts, shard_after}
 use Rattle.document_terms.specs.Shards.{shard_of}
-use Rattle.indexer.specs.Stages.{split_at, words_to, gathered_to}
 use Rattle.indexer.specs.Totals.{Totals, totals_of}
 use Rattle.indexer.proofs.CollectedLemmas.{has_term-permutation, texts_of-with_count}
-use Rattle.indexer.proofs.GatheredAllLemmas.{All-flat, apart, texts_of-flat, gathered_shard}
-use Rattle.indexer.proofs.GatheredAllLemmas.{gathered-all, words_to-all}
+use Rattle.indexer.proofs.ShardListsLemmas.{All-flat, apart, texts_of-flat}
 use Rattle.shard.proofs.HeldTermsLemmas.{has_posting, get-shard_after, is_some-shard_after}
 use Rattle.shard.proofs.HeldTermsLemmas.{HaveSameTerms-shards}
 use Rattle.indexer.proofs.JoinedLemmas.{count_in-few}
 use Rattle.index_definitions.proofs.PostingsLemmas.{counted_all, all_words, length-postings}
 use Rattle.index_definitions.proofs.PostingsLemmas.{terms-postings, length-postings_of}
 use Rattle.index_definitions.proofs.PostingsLemmas.{term_records-all}
-use Rattle.indexer.proofs.StagesLemmas.{below}
 use Rattle.indexer.proofs.WordCountLemmas.{AreWithin, few_words}
+
+-- the shards once all documents are gathered
+abbrev pub all_shards : List (List ℕ) → List (List ℕ) → ℕ → ShardParts
+all_shards stopped documents number = shard_after number (counted_all stopped documents)
 
 -- ---- shard after shard
 
@@ -50,6 +51,13 @@ collects-none parts = record {
   terms_are = refl;
   each = λ number within. absurd (omega arith);
 }
+
+-- what holds below a number, and of it
+or_last : {P : ℕ → Type 0} (n : ℕ) → ((k : ℕ) → k < n → P k) → P n → (k : ℕ) → k < n + 1 → P k
+or_last {P} n before last k within = ⊎_elim
+    (λ (inner : k < n). before k inner)
+    (λ (outer : n ≤ k). let same : n ≡ k = omega arith in subst P same last)
+    (cases_lt k n)
 
 -- the terms of one shard more
 pub collects-push : (parts : ℕ → ShardParts) (shards : ℕ) (terms longer : List TermRecord)
@@ -66,7 +74,7 @@ collects-push parts shards terms longer collects appends =
           ∙ ap (λ ts. ts ++ more) collects.terms_are
           ∙ ap (λ ts. flat_map (λ list. list) lists ++ ts) (sym (append-nil more))
           ∙ sym (flat_map-append (λ list. list) lists (more ∷ []));
-      each = below shards
+      each = or_last shards
           (λ number within.
           subst (HasTermsOfShard (parts number).lists)
           (sym (get_or_append_left lists (more ∷ []) [] number
@@ -88,12 +96,12 @@ same_found true x y found = same_Some x y found
 same_found false x y found = cc
 
 module _ (stopped documents : List (List ℕ)) (terms : List TermRecord)
-    (collects : CollectsTerms (gathered_shard stopped documents) 16 terms) where
+    (collects : CollectsTerms (all_shards stopped documents) 16 terms) where
   abbrev all_postings : List Posting
   all_postings = postings documents stopped
 
   abbrev held : ℕ → ShardParts
-  held number = shard_after number (counted_all stopped documents)
+  held number = all_shards stopped documents number
 
   abbrev lists_of_texts : List (List (List ℕ))
   lists_of_texts = map texts_of collects.lists
@@ -101,9 +109,7 @@ module _ (stopped documents : List (List ℕ)) (terms : List TermRecord)
   -- a list has the terms of its shard
   own_terms : (number : ℕ) → number < 16
       → HasTermsOfShard (held number).lists (get_or collects.lists number [])
-  own_terms number within =
-      subst (λ shard. HasTermsOfShard shard.lists (get_or collects.lists number []))
-      (gathered-all stopped documents number) (collects.each number within)
+  own_terms number within = collects.each number within
 
   own_texts : (number : ℕ) → number < 16
       → get_or lists_of_texts number [] ≡ texts_of (get_or collects.lists number [])
@@ -202,21 +208,17 @@ index_with documents totals terms = record {
   terms = terms;
 }
 
--- counted by these totals and sorted, the terms make the index of n documents
-abbrev MakeIndex : (stopped documents : List (List ℕ)) (n : ℕ) (terms sorted : List TermRecord)
-    → Totals → Type 0
-MakeIndex stopped documents n terms sorted totals =
-    IsPermutation (map (with_count totals.1) terms) sorted
-    → (AreDistinct (texts_of (map (with_count totals.1) terms))
+-- counted by the totals of all words and sorted, the terms of all shards make the index
+pub built : (stopped documents : List (List ℕ)) → length documents ≤ 65536 → AreWithin documents
+    → (terms sorted : List TermRecord)
+    → CollectsTerms (all_shards stopped documents) 16 terms
+    → IsPermutation (map (with_count (totals_of (all_words stopped documents)).1) terms) sorted
+    → (AreDistinct
+    (texts_of (map (with_count (totals_of (all_words stopped documents)).1) terms))
     → IsStrictlySortedBy text_order (texts_of sorted))
-    → index_with n totals sorted ≡ index_without documents stopped
-
-made : (stopped documents : List (List ℕ))
-    → length documents ≤ 65536 → AreWithin documents → (terms sorted : List TermRecord)
-    → CollectsTerms (gathered_shard stopped documents) 16 terms
-    → MakeIndex stopped documents (length documents) terms sorted
-    (totals_of (all_words stopped documents))
-made stopped documents count within terms sorted collects moved rises =
+    → index_with (length documents) (totals_of (all_words stopped documents)) sorted
+    ≡ index_without documents stopped
+built stopped documents count within terms sorted collects moved rises =
     let words = all_words stopped documents in
     let few : length words < 2 ^ 64 =
     omega (
@@ -230,41 +232,22 @@ made stopped documents count within terms sorted collects moved rises =
     let terms_are = terms-built stopped documents terms collects few sorted moved rises in
     cc
 
--- the index of n documents is what the terms of their sixteen shards make
-pub built : (stopped documents : List (List ℕ)) (n : ℕ)
-    → length documents ≡ n → n ≤ 65536 → AreWithin documents
-    → (terms sorted : List TermRecord)
-    → CollectsTerms (gathered_to (split_at stopped documents n) n) 16 terms
-    → IsPermutation (map (with_count (totals_of (words_to stopped documents n)).1) terms) sorted
-    → (AreDistinct
-    (texts_of (map (with_count (totals_of (words_to stopped documents n)).1) terms))
-    → IsStrictlySortedBy text_order (texts_of sorted))
-    → index_with n (totals_of (words_to stopped documents n)) sorted
-    ≡ index_without documents stopped
-built stopped documents n is count within terms sorted =
-    subst (λ m. CollectsTerms (gathered_to (split_at stopped documents m) m) 16 terms
-    → MakeIndex stopped documents m terms sorted (totals_of (words_to stopped documents m))) is
-    (λ collects. subst (λ ws.
-    MakeIndex stopped documents (length documents) terms sorted (totals_of ws))
-    (sym (words_to-all stopped documents))
-    (made stopped documents (omega (arith, is, count)) within terms sorted collects))
-
 -- the same where the totals and the terms are told one after the other
 pub built_from : (stopped documents : List (List ℕ)) (n : ℕ)
     → length documents ≡ n → n ≤ 65536 → AreWithin documents
     → (terms counted sorted : List TermRecord) (totals : Totals)
-    → CollectsTerms (gathered_to (split_at stopped documents n) n) 16 terms
-    → totals ≡ totals_of (words_to stopped documents n)
+    → CollectsTerms (all_shards stopped documents) 16 terms
+    → totals ≡ totals_of (all_words stopped documents)
     → counted ≡ map (with_count totals.1) terms → IsPermutation counted sorted
     → (AreDistinct (texts_of counted) → IsStrictlySortedBy text_order (texts_of sorted))
     → index_with n totals sorted ≡ index_without documents stopped
 built_from stopped documents n is few within terms counted sorted totals collects totals_are
     counted_are moved rises =
-    let counts = totals_of (words_to stopped documents n) in
+    let counts = totals_of (all_words stopped documents) in
     let same : counted ≡ map (with_count counts.1) terms =
     counted_are ∙ ap (λ t. map (with_count t.1) terms) totals_are in
-    ap (λ t. index_with n t sorted) totals_are
-    ∙ built stopped documents n is few within terms sorted collects
+    ap₂ (λ m t. index_with m t sorted) (sym is) totals_are
+    ∙ built stopped documents (omega (arith, is, few)) within terms sorted collects
     (subst (λ ts. IsPermutation ts sorted) same moved)
     (subst (λ ts. AreDistinct (texts_of ts) → IsStrictlySortedBy text_order (texts_of sorted))
     same rises)

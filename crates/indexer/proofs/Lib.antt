@@ -1,9 +1,12 @@
+pub mod BuildLeavesLemmas
+pub mod BuildSoundLemmas
 pub mod BuildingLemmas
 pub mod BuiltLemmas
 pub mod CollectedLemmas
-pub mod GatheredAllLemmas
 pub mod JoinedLemmas
-pub mod MarkedLemmas
-pub mod StagesLemmas
+pub mod PartsLemmas
+pub mod PreparedLemmas
+pub mod RangeLemmas
+pub mod ShardListsLemmas
 pub mod TotalsLemmas
 pub mod WordCountLemmas

@@ -30,7 +30,7 @@ abbrev pub totals_after : Item → ItemOp → Option Item → Totals
 totals_after (Doc content) Split (Some (Stop stopped)) = split_totals stopped content
 totals_after item op read = no_totals
 
--- the meaning of an operation
+-- the item after an operation, and what it contributes
 abbrev pub step : Item → ItemOp → Option Item → Item × Totals
 step item op read = (item_after item op read, totals_after item op read)
 
@@ -40,4 +40,5 @@ own_set op = 0
 
 -- the meaning of the items of an index
 abbrev pub item_meaning : Meaning Item ItemOp Totals
-item_meaning = record { step = step; own = own_set; unit = no_totals; join = totals_join }
+item_meaning =
+    record { step = step; own = own_set; unit = no_totals; join = totals_join }

@@ -1,6 +1,7 @@
 pub mod Documents
 pub mod Totals
 pub mod Items
-pub mod Stages
+pub mod BuildCalls
+pub mod Parts
 pub mod Collected
 pub mod kept

@@ -1,20 +1,17 @@
 // The index of documents, by delegated calls.
-ghost use Rattle.std.specs.Prelude.{◌≡◌, ◌+◌, ◌*◌, ◌^◌, ◌<◌, ◌≤◌, ℕ, List, [], ◌∷◌, map, length};
-ghost use Rattle.std.specs.Prelude.{Err, Ok, true, false, vec_len, IfOk, OnOk};
-ghost use Rattle.std.specs.List.{AllByRecursion, flat_map};
-ghost use Rattle.index_definitions.specs.Words.{Word};
+ghost use Rattle.std.specs.Prelude.{◌≡◌, ◌<◌, ◌≤◌, ℕ, [], map, length, Err, Ok, vec_len, IfOk, OnOk};
+ghost use Rattle.std.specs.List.{AllByRecursion};
+ghost use Rattle.execution_definitions.specs.declared.call.Call.TheVariants as call;
 ghost use Rattle.index_definitions.specs.Index.{index_without};
 ghost use Rattle.delegation.specs.Runtimes.{IsAfter};
 ghost use Rattle.delegation.specs.declared.call.Fault.TheVariants.{Refused};
-ghost use Rattle.shard.specs.Shards.{empty_shard, ShardParts};
+ghost use Rattle.shard.specs.Shards.{ShardParts};
 ghost use Rattle.shard.specs.ShardTerms.{AppendsTermsOfShard};
 ghost use Rattle.indexer.specs.Items.{item_meaning};
-ghost use Rattle.indexer.specs.Documents.{Content};
-ghost use Rattle.indexer.specs.Items.{gathered_content};
-ghost use Rattle.indexer.specs.Totals.{Totals, no_totals, totals_of};
-ghost use Rattle.indexer.specs.Stages.{whole_at, split_at, words_to, gathered_to, HasItems};
-ghost use Rattle.indexer.specs.Stages.{HasMarks, IsGathering};
-ghost use Rattle.indexer.specs.Collected.{CollectsTerms};
+ghost use Rattle.indexer.specs.BuildCalls.{make_calls, split_calls, gather_document_calls};
+ghost use Rattle.indexer.specs.BuildCalls.{gather_calls, get_calls, build_calls};
+ghost use Rattle.indexer.specs.Parts.{MayMake, HasMade};
+ghost use Rattle.indexer.specs.Collected.{HasShards, CollectsTerms};
 ghost use Rattle.indexer.specs.declared.item.Item.TheVariants as kind;
 
 use crate::terms::{fill_totals, sort_terms};
@@ -55,13 +52,11 @@ fn make_items<D: Delegation<Item>>(
     docs: Vec<Vec<u8>>,
     stop: StopSet,
 ) -> Result<(), OutOfMemory>
-    requires new { IsAfter item_meaning (D.seen d.old) [] }
-    requires few { length docs.items ≤ 65536 }
+    requires calls { MayMake (D.seen d.old)
+        (make_calls (map (λ document. document.items) docs.items) stop) }
     requires within { AllByRecursion (λ document. vec_len document ≤ 8388608) docs.items }
-    ensures items { OnOk result (HasItems (D.seen d.new).state stop (length docs.items) 16
-        (whole_at (map (λ document. document.items) docs.items)) empty_shard no_totals) }
-    ensures marks { OnOk result (HasMarks (D.seen d.new).marks (17 + length docs.items)
-        (17 + length docs.items) false) }
+    ensures { OnOk result (HasMade (D.seen d.old) (D.seen d.new)
+        (make_calls (map (λ document. document.items) docs.items) stop)) }
 {
     accepted(d.make_fixed(Item::Stop(stop)))?;
     for doc in docs {
@@ -80,15 +75,8 @@ fn split_documents<D: Delegation<Item>, R: Threads + Wait + Copy + Send + Sync +
     count: u32,
 ) -> Result<(), OutOfMemory>
     requires few { count ≤ 65536 }
-    requires marks { HasMarks (D.seen d.old).marks (17 + count) (17 + count) false }
-    ensures items { (stopped : List (List ℕ)) (documents : List (List ℕ)) →
-        HasItems (D.seen d.old).state stopped count 16 (whole_at documents) empty_shard no_totals →
-        length documents ≡ count →
-        OnOk result (HasItems (D.seen d.new).state stopped count 16
-        (split_at stopped documents count) empty_shard
-        (totals_of (words_to stopped documents count))) }
-    ensures marks { OnOk result (HasMarks (D.seen d.new).marks (17 + count)
-        (19 + 2 * count) false) }
+    requires calls { MayMake (D.seen d.old) (split_calls count) }
+    ensures { OnOk result (HasMade (D.seen d.old) (D.seen d.new) (split_calls count)) }
 {
     accepted(d.begin())?;
     for number in 0..count {
@@ -106,16 +94,9 @@ fn gather_document<D: Delegation<Item>, R: Threads + Wait + Copy + Send + Sync +
 ) -> Result<(), OutOfMemory>
     requires few { count ≤ 65536 }
     requires place { place < count }
-    requires calls { (D.seen d.old).marks.calls < 2 ^ 59 }
-    requires marks { IsGathering (D.seen d.old).marks count }
-    ensures items { (stopped : List (List ℕ)) (content : ℕ → Content) (parts : ℕ → ShardParts)
-        (words : List Word) →
-        HasItems (D.seen d.old).state stopped count 16 content parts (totals_of words) →
-        OnOk result (HasItems (D.seen d.new).state stopped count 16 content
-        (λ number. gathered_content (parts number) (1 + place) (content place))
-        (totals_of words)) }
-    ensures calls { OnOk result ((D.seen d.new).marks.calls ≡ (D.seen d.old).marks.calls + 16) }
-    ensures marks { OnOk result (IsGathering (D.seen d.new).marks count) }
+    requires calls { MayMake (D.seen d.old) (gather_document_calls count place) }
+    ensures { OnOk result
+        (HasMade (D.seen d.old) (D.seen d.new) (gather_document_calls count place)) }
 {
     let doc = 1 + place;
     for number in 0..SHARDS {
@@ -133,13 +114,8 @@ fn gather_documents<D: Delegation<Item>, R: Threads + Wait + Copy + Send + Sync 
     count: u32,
 ) -> Result<(), OutOfMemory>
     requires few { count ≤ 65536 }
-    requires marks { HasMarks (D.seen d.old).marks (17 + count) (19 + 2 * count) false }
-    ensures items { (stopped : List (List ℕ)) (content : ℕ → Content) (words : List Word) →
-        HasItems (D.seen d.old).state stopped count 16 content empty_shard (totals_of words) →
-        OnOk result (HasItems (D.seen d.new).state stopped count 16 content
-        (gathered_to content count) (totals_of words)) }
-    ensures marks { OnOk result (HasMarks (D.seen d.new).marks (17 + count)
-        (21 + 18 * count) false) }
+    requires calls { MayMake (D.seen d.old) (gather_calls count) }
+    ensures { OnOk result (HasMade (D.seen d.old) (D.seen d.new) (gather_calls count)) }
 {
     accepted(d.begin())?;
     for place in 0..count {
@@ -167,13 +143,10 @@ fn collect_terms<D: Delegation<Item>, R: Threads + Wait + Copy + Send + Sync + '
     count: u32,
 ) -> Result<Vec<Term>, OutOfMemory>
     requires few { count ≤ 65536 }
-    requires marks { HasMarks (D.seen d.old).marks (17 + count) (21 + 18 * count) false }
-    ensures terms { (stopped : List (List ℕ)) (content : ℕ → Content) (parts : ℕ → ShardParts)
-        (totals : Totals) → HasItems (D.seen d.old).state stopped count 16 content parts totals →
+    requires calls { MayMake (D.seen d.old) (get_calls count) }
+    ensures terms { (parts : ℕ → ShardParts) → HasShards (D.seen d.old).state count parts →
         IfOk result (λ terms. CollectsTerms parts 16 terms.items) }
-    ensures state { OnOk result ((D.seen d.new).state ≡ (D.seen d.old).state) }
-    ensures marks { OnOk result (HasMarks (D.seen d.new).marks (17 + count)
-        (37 + 18 * count) false) }
+    ensures made { OnOk result (HasMade (D.seen d.old) (D.seen d.new) (get_calls count)) }
 {
     let mut terms = Vec::new(alloc);
     for number in 0..SHARDS {
@@ -197,6 +170,9 @@ pub fn build<D: Delegation<Item>, R: Threads + Wait + Copy + Send + Sync + 'stat
     requires within { AllByRecursion (λ document. vec_len document ≤ 8388608) docs.items }
     ensures index { IfOk result (λ made.
         made ≡ index_without (map (λ document. document.items) docs.items) stop) }
+    // The index is what these calls came to, and the runtime took no others.
+    ensures calls { OnOk result (IsAfter item_meaning (D.seen d.new)
+        (build_calls (map (λ document. document.items) docs.items) stop)) }
 {
     let count = docs.len() as u32;
     make_items(alloc, d, docs, stop)?;

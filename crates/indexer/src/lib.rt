@@ -5,6 +5,7 @@
 mod building;
 mod document;
 mod item;
+mod laws;
 mod terms;
 mod totals;
 
@@ -12,5 +13,6 @@ pub use building::build;
 pub use document::Document;
 pub use inverted_index::{Index, Term};
 pub use item::{Item, ItemOp};
+pub use laws::{the_calls_of_build_are_sound, what_the_calls_of_build_leave};
 pub use shard::Shard;
 pub use totals::Totals;

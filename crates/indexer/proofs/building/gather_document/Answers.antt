@@ -1,48 +1,48 @@
-use Rattle.std.proofs.Common.{rules, ◌+◌, ap, ◌∙◌, arith}
-use Rattle.execution_definitions.specs.declared.call.Reply.TheVariants as reply
-use Rattle.indexer.proofs.StagesLemmas.{accepts, no_refusal}
-use Rattle.indexer.proofs.BuildingLemmas.{none_gathered, one_gathered, all_gathered}
-use Rattle.indexer.proofs.BuildingLemmas.{allows-gather, still-gathering, more-calls}
+use Rattle.std.proofs.Common.{rules, ◌≡◌, ◌+◌, [], ◌∷◌, map, sym, ap, ◌∙◌, subst, arith}
+use Rattle.std.specs.List.{range_with_len}
+use Rattle.indexer.specs.BuildCalls.{gather_call, gather_document_calls}
+use Rattle.indexer.specs.Parts.{HasMade}
+use Rattle.indexer.proofs.PartsLemmas.{may-next, made-none, made-next, not_refused, made-one}
+use Rattle.indexer.proofs.RangeLemmas.{shard_numbers-is, behind, map-range-at, map-range-more}
 use Rattle.indexer.proofs.building.gather_document.Goals as goal
 
 pub loop-number-init : goal.loop-number-init
 loop-number-init g c = record {
   within = omega arith;
-  items = λ stopped content parts words has.
-      none_gathered stopped c.args.count c.args.place content parts words _ has;
-  marks = c.requires.marks;
-  calls = omega arith;
+  made = made-none (g.D.Runtime.seen c.args.d.now);
 }
 
 pub accepted-requires : goal.accepted-requires
 accepted-requires g c =
-    let at = c.loop-number.invariant in
-    no_refusal reply.Sent (g.D.Runtime.seen c.loop-number.d)
-    (g.D.Runtime.seen c.delegate.new.self) _ _ c.delegate.ensures.answered
-    (allows-gather (g.D.Runtime.seen c.loop-number.d) c.args.count c.args.place c.requires.place
-    (rw at.calls (omega (arith, c.requires.calls, at.within))) at.marks c.loop-number.number
-    c.loop-number-test.true)
+    let k = c.loop-number.number in
+    let gather = gather_call c.args.count c.args.place in
+    not_refused (g.D.Runtime.seen c.loop-number.d) (g.D.Runtime.seen c.delegate.new.self)
+    (gather k) _ c.delegate.ensures.follows
+    (may-next (g.D.Runtime.seen c.args.d.now) (g.D.Runtime.seen c.loop-number.d)
+    (gather_document_calls c.args.count c.args.place) (map gather (range_with_len 0 k))
+    (gather k ∷ []) (map gather (behind k 16))
+    (ap (map gather) shard_numbers-is ∙ map-range-at gather k 16 c.loop-number-test.true)
+    c.requires.calls c.loop-number.invariant.made)
 
 pub loop-number-preserved : goal.loop-number-preserved
 loop-number-preserved g c =
-    let at = c.loop-number.invariant in
-    let inside = c.loop-number-test.true in
-    let made = accepts reply.Sent (g.D.Runtime.seen c.loop-number.d)
-    (g.D.Runtime.seen c.delegate.new.self) _ _ _ c.delegate.ensures.answered
-    c.in_ok-accepted.ensures in
+    let k = c.loop-number.number in
+    let gather = gather_call c.args.count c.args.place in
     record {
       within = search rules;
-      items = λ stopped content parts words has.
-          one_gathered stopped c.args.count c.args.place content parts words
-          c.loop-number.number _ _ c.requires.place inside
-          (at.items stopped content parts words has) made;
-      marks = still-gathering _ _ c.args.count c.args.place c.requires.place
-          c.loop-number.number inside at.marks made;
-      calls = more-calls _ _ _ _ _ made ∙ ap (λ n. n + 1) at.calls ∙ omega arith;
+      made = made-next (g.D.Runtime.seen c.args.d.now) (g.D.Runtime.seen c.loop-number.d)
+          (g.D.Runtime.seen c.delegate.new.self) (map gather (range_with_len 0 (k + 1)))
+          (map gather (range_with_len 0 k)) (gather k ∷ []) (map-range-more gather k)
+          c.loop-number.invariant.made
+          (made-one (g.D.Runtime.seen c.loop-number.d) (g.D.Runtime.seen c.delegate.new.self)
+          (gather k) _ c.delegate.ensures.follows _ c.in_ok-accepted.ensures);
     }
 
-pub returns-clause-items : goal.returns-clause-items
-returns-clause-items g c = λ stopped content parts words has.
-    all_gathered stopped c.args.count c.args.place content parts words _ c.loop-number.number
-    (omega (arith, c.loop-number-test.false))
-    (c.loop-number.invariant.items stopped content parts words has)
+pub returns : goal.returns
+returns g c =
+    let gather = gather_call c.args.count c.args.place in
+    let all : c.loop-number.number ≡ 16 =
+    omega (arith, c.loop-number.invariant.within, c.loop-number-test.false) in
+    subst (HasMade (g.D.Runtime.seen c.args.d.now) (g.D.Runtime.seen c.loop-number.d))
+    (ap (λ n. map gather (range_with_len 0 n)) all ∙ ap (map gather) (sym shard_numbers-is))
+    c.loop-number.invariant.made

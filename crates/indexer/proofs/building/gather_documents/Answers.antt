@@ -1,63 +1,80 @@
-use Rattle.std.proofs.Common.{rules, ◌≡◌, ◌+◌, ◌*◌, sym, ap, ◌∙◌, arith}
-use Rattle.execution_definitions.specs.declared.call.Reply.TheVariants as reply
+use Rattle.std.proofs.Common.{rules, ◌≡◌, ◌+◌, [], ◌∷◌, ◌++◌, sym, ap, ◌∙◌, append_assoc, arith}
+use Rattle.std.specs.List.{flat_map, range_with_len}
 use Rattle.execution_definitions.specs.declared.call.Call.TheVariants as call
-use Rattle.indexer.specs.Stages.{gathered_to}
-use Rattle.indexer.proofs.StagesLemmas.{accepts, on_accepted}
-use Rattle.indexer.proofs.BuildingLemmas.{began-gathering, began-calls, ended-gathering}
-use Rattle.indexer.proofs.BuildingLemmas.{gathered_one, gathered_all}
-use Rattle.indexer.specs.Totals.{totals_of}
+use Rattle.indexer.specs.BuildCalls.{gather_document_calls, gather_calls}
+use Rattle.indexer.proofs.PartsLemmas.{may-front, may-next, made-next, not_refused, made-one}
+use Rattle.indexer.proofs.PartsLemmas.{made-on-ok}
+use Rattle.indexer.proofs.RangeLemmas.{behind, flat_map-range-at, flat_map-range-more}
 use Rattle.indexer.proofs.building.gather_documents.Goals as goal
 
+pub accepted-requires : goal.accepted-requires
+accepted-requires g c =
+    not_refused (g.D.Runtime.seen c.args.d.now) (g.D.Runtime.seen c.begin.new.self) call.Begin _
+    c.begin.ensures.follows
+    (may-front (g.D.Runtime.seen c.args.d.now) (call.Begin ∷ [])
+    (flat_map (gather_document_calls c.args.count) (range_with_len 0 c.args.count)
+    ++ call.End ∷ []) c.requires.calls)
+
 pub loop-place-init : goal.loop-place-init
-loop-place-init g c =
-    let began = accepts (λ _. reply.Done) (g.D.Runtime.seen c.args.d.now)
-    (g.D.Runtime.seen c.begin.new.self) call.Begin _ _ c.begin.ensures.answered
-    c.in_ok-accepted.ensures in
-    record {
-      within = omega arith;
-      items = λ stopped content words has. rw began.state has;
-      marks = began-gathering _ _ c.args.count _ c.requires.marks began;
-      calls = began-calls _ _ c.args.count _ c.requires.marks began ∙ omega arith;
-    }
+loop-place-init g c = record {
+  within = omega arith;
+  made = made-one (g.D.Runtime.seen c.args.d.now) (g.D.Runtime.seen c.begin.new.self) call.Begin _
+      c.begin.ensures.follows _ c.in_ok-accepted.ensures;
+}
 
 pub gather_document-requires-clause-calls : goal.gather_document-requires-clause-calls
-gather_document-requires-clause-calls g c =
-    rw c.loop-place.invariant.calls
-    (omega (arith, c.requires.few, c.loop-place.invariant.within))
-
-pub gather_document-requires-clause-marks : goal.gather_document-requires-clause-marks
-gather_document-requires-clause-marks g c = λ κs lives. c.loop-place.invariant.marks
+gather_document-requires-clause-calls g c = λ κs lives.
+    let k = c.loop-place.place in
+    let n = c.args.count in
+    let gather = gather_document_calls n in
+    let rest = flat_map gather (behind k n) in
+    let all : gather_calls n ≡ (call.Begin ∷ flat_map gather (range_with_len 0 k))
+    ++ (gather k ++ (rest ++ call.End ∷ [])) =
+    ap (λ calls. call.Begin ∷ calls ++ call.End ∷ [])
+    (flat_map-range-at gather k n c.loop-place-test.true)
+    ∙ ap (λ calls. call.Begin ∷ calls)
+    (append_assoc (flat_map gather (range_with_len 0 k)) (gather k ++ rest) (call.End ∷ [])
+    ∙ ap (λ calls. flat_map gather (range_with_len 0 k) ++ calls)
+    (append_assoc (gather k) rest (call.End ∷ []))) in
+    may-next (g.D.Runtime.seen c.args.d.now) (g.D.Runtime.seen c.loop-place.d) (gather_calls n)
+    (call.Begin ∷ flat_map gather (range_with_len 0 k)) (gather k) (rest ++ call.End ∷ []) all
+    c.requires.calls c.loop-place.invariant.made
 
 pub loop-place-preserved : goal.loop-place-preserved
 loop-place-preserved g c =
-    let at = c.loop-place.invariant in
+    let k = c.loop-place.place in
+    let gather = gather_document_calls c.args.count in
     record {
       within = search rules;
-      items = λ stopped content words has. gathered_one _ stopped c.args.count content
-          (totals_of words) c.loop-place.place (c.in_ok-gather_document.ensures.items stopped content
-          (gathered_to content c.loop-place.place) words (at.items stopped content words has));
-      marks = c.in_ok-gather_document.ensures.marks;
-      calls = c.in_ok-gather_document.ensures.calls ∙ ap (λ n. n + 16) at.calls ∙ omega arith;
+      made = made-next (g.D.Runtime.seen c.args.d.now) (g.D.Runtime.seen c.loop-place.d)
+          (g.D.Runtime.seen c.gather_document.new.d)
+          (call.Begin ∷ flat_map gather (range_with_len 0 (k + 1)))
+          (call.Begin ∷ flat_map gather (range_with_len 0 k)) (gather k)
+          (ap (λ calls. call.Begin ∷ calls) (flat_map-range-more gather k))
+          c.loop-place.invariant.made c.in_ok-gather_document.ensures;
     }
 
-pub returns-clause-marks : goal.returns-clause-marks
-returns-clause-marks g c =
-    let at = c.loop-place.invariant in
-    let all : c.loop-place.place ≡ c.args.count =
-    omega (arith, at.within, c.loop-place-test.false) in
-    on_accepted (λ _. reply.Done) (g.D.Runtime.seen c.loop-place.d)
-    (g.D.Runtime.seen c.end.new.self) call.End _ _ _ c.end.ensures.answered c.accepted-2.ensures
-    (λ ended.
-    let calls : 20 + 2 * c.args.count + 16 * c.loop-place.place + 1 ≡ 21 + 18 * c.args.count =
-    rw all (omega arith) in
-    rw (sym calls) (ended-gathering _ _ c.args.count _ at.marks at.calls ended))
+pub accepted-requires-2 : goal.accepted-requires-2
+accepted-requires-2 g c =
+    let k = c.loop-place.place in
+    let n = c.args.count in
+    let all : k ≡ n = omega (arith, c.loop-place.invariant.within, c.loop-place-test.false) in
+    not_refused (g.D.Runtime.seen c.loop-place.d) (g.D.Runtime.seen c.end.new.self) call.End _
+    c.end.ensures.follows
+    (may-next (g.D.Runtime.seen c.args.d.now) (g.D.Runtime.seen c.loop-place.d) (gather_calls n)
+    (call.Begin ∷ flat_map (gather_document_calls n) (range_with_len 0 k)) (call.End ∷ []) []
+    (ap (λ j. call.Begin ∷ flat_map (gather_document_calls n) (range_with_len 0 j)
+    ++ call.End ∷ []) (sym all)) c.requires.calls c.loop-place.invariant.made)
 
-pub returns-clause-items : goal.returns-clause-items
-returns-clause-items g c = λ stopped content words has.
-    let at = c.loop-place.invariant in
-    let all : c.loop-place.place ≡ c.args.count =
-    omega (arith, at.within, c.loop-place-test.false) in
-    on_accepted (λ _. reply.Done) (g.D.Runtime.seen c.loop-place.d)
-    (g.D.Runtime.seen c.end.new.self) call.End _ _ _ c.end.ensures.answered c.accepted-2.ensures
-    (λ ended. gathered_all _ _ stopped c.args.count content (totals_of words) c.loop-place.place all
-    ended.state (at.items stopped content words has))
+pub returns : goal.returns
+returns g c =
+    let k = c.loop-place.place in
+    let n = c.args.count in
+    let all : k ≡ n = omega (arith, c.loop-place.invariant.within, c.loop-place-test.false) in
+    made-on-ok (g.D.Runtime.seen c.loop-place.d) (g.D.Runtime.seen c.end.new.self) call.End _
+    c.end.ensures.follows c.accepted-2.result _ c.accepted-2.ensures
+    (made-next (g.D.Runtime.seen c.args.d.now) (g.D.Runtime.seen c.loop-place.d)
+    (g.D.Runtime.seen c.end.new.self) (gather_calls n)
+    (call.Begin ∷ flat_map (gather_document_calls n) (range_with_len 0 k)) (call.End ∷ [])
+    (ap (λ j. call.Begin ∷ flat_map (gather_document_calls n) (range_with_len 0 j)
+    ++ call.End ∷ []) (sym all)) c.loop-place.invariant.made)

@@ -1,57 +1,77 @@
-use Rattle.std.proofs.Common.{rules, ◌≡◌, ◌+◌, ◌*◌, sym, ap, ◌∙◌, arith}
-use Rattle.execution_definitions.specs.declared.call.Reply.TheVariants as reply
+use Rattle.std.proofs.Common.{rules, ◌≡◌, ◌+◌, [], ◌∷◌, ◌++◌, map, sym, ap, ◌∙◌, append_assoc, arith}
+use Rattle.std.specs.List.{range_with_len}
 use Rattle.execution_definitions.specs.declared.call.Call.TheVariants as call
-use Rattle.indexer.proofs.StagesLemmas.{accepts, no_refusal, on_accepted}
-use Rattle.indexer.proofs.BuildingLemmas.{none_split, one_split, began-splitting, began-calls}
-use Rattle.indexer.proofs.BuildingLemmas.{allows-split, still-splitting, more-calls}
-use Rattle.indexer.proofs.BuildingLemmas.{ended-splitting}
+use Rattle.indexer.specs.BuildCalls.{split_call, split_calls}
+use Rattle.indexer.proofs.PartsLemmas.{may-front, may-next, made-next, not_refused, made-one}
+use Rattle.indexer.proofs.PartsLemmas.{made-on-ok}
+use Rattle.indexer.proofs.RangeLemmas.{behind, map-range-at, map-range-more}
 use Rattle.indexer.proofs.building.split_documents.Goals as goal
 
+pub accepted-requires : goal.accepted-requires
+accepted-requires g c =
+    not_refused (g.D.Runtime.seen c.args.d.now) (g.D.Runtime.seen c.begin.new.self) call.Begin _
+    c.begin.ensures.follows
+    (may-front (g.D.Runtime.seen c.args.d.now) (call.Begin ∷ [])
+    (map split_call (range_with_len 0 c.args.count) ++ call.End ∷ []) c.requires.calls)
+
 pub loop-number-init : goal.loop-number-init
-loop-number-init g c =
-    let began = accepts (λ _. reply.Done) (g.D.Runtime.seen c.args.d.now)
-    (g.D.Runtime.seen c.begin.new.self) call.Begin _ _ c.begin.ensures.answered
-    c.in_ok-accepted.ensures in
-    record {
-      within = omega arith;
-      items = λ stopped documents has all. rw began.state
-          (none_split (g.D.Runtime.seen c.args.d.now).state stopped documents c.args.count has);
-      marks = began-splitting _ _ c.args.count _ c.requires.marks began;
-      calls = began-calls _ _ c.args.count _ c.requires.marks began ∙ omega arith;
-    }
+loop-number-init g c = record {
+  within = omega arith;
+  made = made-one (g.D.Runtime.seen c.args.d.now) (g.D.Runtime.seen c.begin.new.self) call.Begin _
+      c.begin.ensures.follows _ c.in_ok-accepted.ensures;
+}
 
 pub accepted-requires-in-loop-number : goal.accepted-requires-in-loop-number
 accepted-requires-in-loop-number g c =
-    let at = c.loop-number.invariant in
-    no_refusal reply.Sent (g.D.Runtime.seen c.loop-number.d)
-    (g.D.Runtime.seen c.delegate.new.self) _ _ c.delegate.ensures.answered
-    (allows-split (g.D.Runtime.seen c.loop-number.d) c.args.count c.loop-number.number
-    c.loop-number-test.true (rw at.calls (omega (arith, c.requires.few, at.within))) at.marks)
+    let k = c.loop-number.number in
+    let n = c.args.count in
+    let rest = map split_call (behind k n) in
+    let all : split_calls n ≡ (call.Begin ∷ map split_call (range_with_len 0 k))
+    ++ (split_call k ∷ rest ++ call.End ∷ []) =
+    ap (λ calls. call.Begin ∷ calls ++ call.End ∷ [])
+    (map-range-at split_call k n c.loop-number-test.true)
+    ∙ ap (λ calls. call.Begin ∷ calls)
+    (append_assoc (map split_call (range_with_len 0 k)) (split_call k ∷ rest) (call.End ∷ [])) in
+    not_refused (g.D.Runtime.seen c.loop-number.d) (g.D.Runtime.seen c.delegate.new.self)
+    (split_call k) _ c.delegate.ensures.follows
+    (may-next (g.D.Runtime.seen c.args.d.now) (g.D.Runtime.seen c.loop-number.d) (split_calls n)
+    (call.Begin ∷ map split_call (range_with_len 0 k)) (split_call k ∷ []) (rest ++ call.End ∷ [])
+    all c.requires.calls c.loop-number.invariant.made)
 
 pub loop-number-preserved : goal.loop-number-preserved
 loop-number-preserved g c =
-    let at = c.loop-number.invariant in
-    let within = c.loop-number-test.true in
-    let made = accepts reply.Sent (g.D.Runtime.seen c.loop-number.d)
-    (g.D.Runtime.seen c.delegate.new.self) _ _ _ c.delegate.ensures.answered
-    c.in_ok-accepted-2.ensures in
+    let k = c.loop-number.number in
     record {
       within = search rules;
-      items = λ stopped documents has all.
-          one_split stopped documents c.args.count c.loop-number.number _ _ all within
-          (at.items stopped documents has all) made;
-      marks = still-splitting _ _ c.args.count c.loop-number.number within at.marks made;
-      calls = more-calls _ _ _ _ _ made ∙ ap (λ n. n + 1) at.calls ∙ omega arith;
+      made = made-next (g.D.Runtime.seen c.args.d.now) (g.D.Runtime.seen c.loop-number.d)
+          (g.D.Runtime.seen c.delegate.new.self)
+          (call.Begin ∷ map split_call (range_with_len 0 (k + 1)))
+          (call.Begin ∷ map split_call (range_with_len 0 k)) (split_call k ∷ [])
+          (ap (λ calls. call.Begin ∷ calls) (map-range-more split_call k))
+          c.loop-number.invariant.made
+          (made-one (g.D.Runtime.seen c.loop-number.d) (g.D.Runtime.seen c.delegate.new.self)
+          (split_call k) _ c.delegate.ensures.follows _ c.in_ok-accepted-2.ensures);
     }
 
-pub returns-clause-marks : goal.returns-clause-marks
-returns-clause-marks g c =
-    let at = c.loop-number.invariant in
-    let all : c.loop-number.number ≡ c.args.count =
-    omega (arith, at.within, c.loop-number-test.false) in
-    on_accepted (λ _. reply.Done) (g.D.Runtime.seen c.loop-number.d)
-    (g.D.Runtime.seen c.end.new.self) call.End _ _ _ c.end.ensures.answered c.accepted-2.ensures
-    (λ ended.
-    let calls : 18 + c.args.count + c.loop-number.number + 1 ≡ 19 + 2 * c.args.count =
-    rw all (omega arith) in
-    rw (sym calls) (ended-splitting _ _ c.args.count _ at.marks at.calls ended))
+pub accepted-requires-2 : goal.accepted-requires-2
+accepted-requires-2 g c =
+    let k = c.loop-number.number in
+    let all : k ≡ c.args.count =
+    omega (arith, c.loop-number.invariant.within, c.loop-number-test.false) in
+    not_refused (g.D.Runtime.seen c.loop-number.d) (g.D.Runtime.seen c.end.new.self) call.End _
+    c.end.ensures.follows
+    (may-next (g.D.Runtime.seen c.args.d.now) (g.D.Runtime.seen c.loop-number.d)
+    (split_calls c.args.count) (call.Begin ∷ map split_call (range_with_len 0 k)) (call.End ∷ [])
+    [] (ap split_calls (sym all)) c.requires.calls c.loop-number.invariant.made)
+
+pub returns : goal.returns
+returns g c =
+    let k = c.loop-number.number in
+    let all : k ≡ c.args.count =
+    omega (arith, c.loop-number.invariant.within, c.loop-number-test.false) in
+    made-on-ok (g.D.Runtime.seen c.loop-number.d) (g.D.Runtime.seen c.end.new.self) call.End _
+    c.end.ensures.follows c.accepted-2.result _ c.accepted-2.ensures
+    (made-next (g.D.Runtime.seen c.args.d.now) (g.D.Runtime.seen c.loop-number.d)
+    (g.D.Runtime.seen c.end.new.self) (split_calls c.args.count)
+    (call.Begin ∷ map split_call (range_with_len 0 k)) (call.End ∷ []) (ap split_calls (sym all))
+    c.loop-number.invariant.made)
