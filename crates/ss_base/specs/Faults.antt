@@ -2,7 +2,7 @@
 --
 -- Each part of the outside counts its faults. A call that answers a fault shows a count that rose in
 -- that very call, so that nothing above can blame the outside for what it did itself.
-use Rattle.std.specs.Prelude.{◌≡◌, ℕ, ◌+◌, ◌-◌, ◌^◌, ◌≤◌, min, Result, IsOk, OnErr}
+use Rattle.std.specs.Prelude.{◌≡◌, ℕ, ◌+◌, ◌-◌, ◌^◌, ◌≤◌, min, Result, IsOk, OnErr, MatchResult}
 
 -- a count of faults rose. One that stands at its type's end stays there, and counts as risen
 abbrev pub Rose : ℕ → ℕ → Type 0
@@ -16,3 +16,8 @@ pub record HasCause {T E : Type 0} (before now : ℕ) (result : Result T E) : Ty
 -- no fault is answered, and none is counted
 abbrev pub HasNoFault : {T E : Type 0} → ℕ → ℕ → Result T E → Type 0
 HasNoFault before now result = IsOk result × (now ≡ before)
+
+-- a fault counts one, and nothing else is counted. A count at its type's end stays there
+abbrev pub CountsFaults : {T E : Type 0} → ℕ → ℕ → Result T E → Type 0
+CountsFaults before now result =
+    MatchResult result (λ _. now ≡ before) (λ _. now ≡ min (before + 1) (2 ^ 64 - 1))

@@ -1,6 +1,5 @@
 // The calls of a shelf or a sink in memory, numbered, and those among them that are made to fail.
-ghost use Rattle.std.specs.Prelude.{◌≡◌, ◌+◌, ◌-◌, ◌^◌, ◌==◌, min};
-ghost use Rattle.std.specs.List.{list_any};
+ghost use Rattle.std.specs.Prelude.{◌≡◌};
 
 /// Counts calls from 0, and says which of them fail.
 #[derive(Drop)]
@@ -10,18 +9,18 @@ pub(crate) struct Calls {
 }
 
 impl Calls {
+    ghost use Rattle.ss_base.specs.Calls.{IsNew, IsNext, next_fails};
+
     pub(crate) fn new(fail: Vec<u64>) -> Calls
-        ensures list { result.fail ≡ fail }
-        ensures none { result.made ≡ 0 }
+        ensures { IsNew result fail }
     {
         Calls { fail, made: 0 }
     }
 
     /// Numbers one more call, and says whether it is to fail.
     pub(crate) fn next_fails(&mut self) -> bool
-        ensures value { result ≡ list_any (λ number. number == self.old.made) self.old.fail.items }
-        ensures list { self.new.fail ≡ self.old.fail }
-        ensures counts { self.new.made ≡ min (self.old.made + 1) (2 ^ 64 - 1) }
+        ensures value { result ≡ next_fails self.old }
+        ensures next { IsNext self.old self.new }
     {
         let number = self.made;
         self.made = number.saturating_add(1);

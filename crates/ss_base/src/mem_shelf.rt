@@ -1,10 +1,13 @@
 // A shelf in memory, with calls that fail as listed.
-ghost use Rattle.std.specs.Prelude.{◌≡◌, ◌+◌, ◌<◌, ◌≤◌, ◌^◌, [], Some, IfSome, length, position, drop};
+ghost use Rattle.std.specs.Prelude.{◌≡◌, ◌+◌, ◌<◌, ◌≤◌, ◌^◌, ◌&&◌, ◌∷◌, ◌++◌, [], false, not, Some};
+ghost use Rattle.std.specs.Prelude.{IfSome, IfOk, OnOk, IsTrue, is_ok, is_some, length, position, drop};
+ghost use Rattle.std.specs.Io.{ReadsAtMost};
 ghost use Rattle.std.specs.Option.{option_copied};
 ghost use Rattle.std.specs.Str.{bytes_eq};
-ghost use Rattle.ss_base.specs.Calls.{fails_none};
+ghost use Rattle.ss_base.specs.Calls.{fails_none, fitting, fitting_left, next_fails, IsNew, IsNext};
+ghost use Rattle.ss_base.specs.Faults.{CountsFaults, HasCause, HasNoFault};
 ghost use Rattle.ss_base.specs.Files.{bytes_of, rest_at};
-ghost use Rattle.ss_base.specs.Shelves.{Gives};
+ghost use Rattle.ss_base.specs.Shelves.{Gives, IsHeld, IsOpenAfter, IsSteady, Opens};
 
 use crate::calls::Calls;
 use crate::{Asked, Failed, Shelf, Text};
@@ -34,6 +37,10 @@ impl MemShelf {
         ensures contents { ⟦<MemShelf as Shelf>⟧.contents result ≡ Some (bytes_of files.items) }
         ensures asked { ⟦<MemShelf as Shelf>⟧.asked result ≡ [] }
         ensures steady { ⟦<MemShelf as Shelf>⟧.fails_only_if_absent result ≡ fails_none fail.items }
+        ensures faults { ⟦<MemShelf as Shelf>⟧.faults result ≡ 0 }
+        ensures is_open { ⟦<MemShelf as Shelf>⟧.is_open result ≡ false }
+        ensures calls { IsNew result.calls fail }
+        ensures chunk { result.chunk ≡ chunk }
     {
         MemShelf {
             files,
@@ -74,6 +81,7 @@ fn give(rest: &[u8], chunk: usize, into: &mut [u8]) -> usize
     requires room { 0 < length into.old }
     ensures within { result ≤ length rest.now }
     ensures bound { result ≤ length into.new }
+    ensures fits { result ≡ fitting chunk (length into.old) (length rest.now) }
     ensures gives { Gives (Some rest.now) (Some (drop result rest.now)) into.new result }
 {
     let count = chunk.min(into.len()).min(rest.len());
@@ -94,7 +102,25 @@ impl Shelf for MemShelf {
 
     ghost left = { λ s. rest_at s.files.items s.place s.taken };
 
-    fn open_name(&mut self, name: &str) -> Result<(), Failed> {
+    fn open_name(&mut self, name: &str) -> Result<(), Failed>
+        ensures cause { HasCause self.old.faults self.new.faults result }
+        ensures contents { bytes_of self.new.files.items ≡ bytes_of self.old.files.items }
+        ensures asked { self.new.asked.names ≡ self.old.asked.names ++ name.now ∷ [] }
+        ensures steady { IsSteady (Some (bytes_of self.old.files.items))
+            (fails_none self.old.calls.fail.items) →
+            IsTrue (fails_none self.new.calls.fail.items)
+            × (IsHeld (Some (bytes_of self.old.files.items)) name.now →
+            HasNoFault self.old.faults self.new.faults result) }
+        ensures is_open { IsOpenAfter result self.new.is_open }
+        ensures left { OnOk result (Opens (Some (bytes_of self.old.files.items)) name.now
+            (rest_at self.new.files.items self.new.place self.new.taken)) }
+        // what follows is this shelf's own: which calls fail, and nothing else counts a fault
+        ensures fails { is_ok result
+            ≡ (not (next_fails self.old.calls) && is_some (bytes_of self.old.files.items name.now)) }
+        ensures counts { CountsFaults self.old.faults self.new.faults result }
+        ensures calls { IsNext self.old.calls self.new.calls }
+        ensures chunk { self.new.chunk ≡ self.old.chunk }
+    {
         self.is_open = false;
         self.asked = self.asked.and(name);
         if self.calls.next_fails() {
@@ -111,7 +137,28 @@ impl Shelf for MemShelf {
         Ok(())
     }
 
-    fn read(&mut self, into: &mut [u8]) -> Result<usize, Failed> {
+    fn read(&mut self, into: &mut [u8]) -> Result<usize, Failed>
+        requires is_open { IsTrue self.old.is_open }
+        requires room { 0 < length into.old }
+        ensures bound { ReadsAtMost result into.new }
+        ensures cause { HasCause self.old.faults self.new.faults result }
+        ensures contents { bytes_of self.new.files.items ≡ bytes_of self.old.files.items }
+        ensures asked { self.new.asked.names ≡ self.old.asked.names }
+        ensures steady { IsSteady (Some (bytes_of self.old.files.items))
+            (fails_none self.old.calls.fail.items) →
+            IsTrue (fails_none self.new.calls.fail.items)
+            × HasNoFault self.old.faults self.new.faults result }
+        ensures is_open { self.new.is_open ≡ self.old.is_open }
+        ensures left { IfOk result (Gives (rest_at self.old.files.items self.old.place self.old.taken)
+            (rest_at self.new.files.items self.new.place self.new.taken) into.new) }
+        // what follows is this shelf's own: which calls fail, and how much each gives
+        ensures fails { is_ok result ≡ not (next_fails self.old.calls) }
+        ensures fits { IfOk result (λ n. n ≡ fitting_left self.old.chunk (length into.old)
+            (rest_at self.old.files.items self.old.place self.old.taken)) }
+        ensures counts { CountsFaults self.old.faults self.new.faults result }
+        ensures calls { IsNext self.old.calls self.new.calls }
+        ensures chunk { self.new.chunk ≡ self.old.chunk }
+    {
         if self.calls.next_fails() {
             self.faults = self.faults.saturating_add(1);
             return Err(Failed);

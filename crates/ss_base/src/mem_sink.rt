@@ -1,6 +1,9 @@
 // A sink in memory, with calls that fail as listed.
-ghost use Rattle.std.specs.Prelude.{◌≡◌, ◌+◌, ◌<◌, ◌≤◌, [], Some, IfOk, vec_len, vec_capacity};
-ghost use Rattle.ss_base.specs.Calls.{sure_bytes};
+ghost use Rattle.std.specs.Prelude.{◌≡◌, ◌+◌, ◌<◌, ◌≤◌, ◌&&◌, [], Some, IfOk, OnErr, is_ok, not};
+ghost use Rattle.std.specs.Prelude.{length, nat_lt, vec_len, vec_capacity};
+ghost use Rattle.ss_base.specs.Calls.{fitting, next_fails, sure_bytes, IsNew, IsNext};
+ghost use Rattle.ss_base.specs.Faults.{CountsFaults, HasCause, HasNoFault};
+ghost use Rattle.ss_base.specs.Sinks.{Gains};
 
 use crate::calls::Calls;
 use crate::{Failed, OutOfMemory, Sink};
@@ -34,6 +37,10 @@ impl MemSink {
         ensures gained { IfOk result (λ sink. ⟦<MemSink as Sink>⟧.gained sink ≡ Some []) }
         ensures sure { IfOk result
             (λ sink. ⟦<MemSink as Sink>⟧.sure sink ≡ sure_bytes fail.items room) }
+        ensures faults { IfOk result (λ sink. ⟦<MemSink as Sink>⟧.faults sink ≡ 0) }
+        ensures calls { IfOk result (λ sink. IsNew sink.calls fail) }
+        ensures room { IfOk result (λ sink. sink.room ≡ room) }
+        ensures chunk { IfOk result (λ sink. sink.chunk ≡ chunk) }
     {
         Ok(MemSink {
             bytes: Vec::with_capacity(alloc, room)?,
@@ -59,7 +66,24 @@ impl Sink for MemSink {
 
     ghost sure = { λ s. sure_bytes s.calls.fail.items s.room };
 
-    fn write(&mut self, bytes: &[u8]) -> Result<usize, Failed> {
+    fn write(&mut self, bytes: &[u8]) -> Result<usize, Failed>
+        requires { 0 < length bytes.now }
+        ensures bound { IfOk result (λ n. (0 < n) × (n ≤ length bytes.now)) }
+        ensures cause { HasCause self.old.faults self.new.faults result }
+        ensures gained { Gains (Some self.old.bytes.items) (Some self.new.bytes.items) result bytes.now }
+        ensures sure { 0 < sure_bytes self.old.calls.fail.items self.old.room →
+            HasNoFault self.old.faults self.new.faults result
+            × IfOk result (λ n. sure_bytes self.old.calls.fail.items self.old.room
+            ≤ sure_bytes self.new.calls.fail.items self.new.room + n) }
+        // what follows is this sink's own: which writes fail, and how much each takes
+        ensures fails { is_ok result ≡ (not (next_fails self.old.calls) && nat_lt 0 self.old.room) }
+        ensures fits { IfOk result (λ n. n ≡ fitting self.old.chunk (length bytes.now) self.old.room) }
+        ensures room { IfOk result (λ n. self.new.room + n ≡ self.old.room) }
+        ensures room_stays { OnErr result (self.new.room ≡ self.old.room) }
+        ensures counts { CountsFaults self.old.faults self.new.faults result }
+        ensures calls { IsNext self.old.calls self.new.calls }
+        ensures chunk { self.new.chunk ≡ self.old.chunk }
+    {
         let fails = self.calls.next_fails();
         if fails || self.room == 0 {
             self.faults = self.faults.saturating_add(1);
