@@ -7,8 +7,11 @@ ghost use Rattle.ss_base.specs.Faults.{HasCause, HasNoFault};
 ghost use Rattle.ss_base.specs.Shelves.{Contents, IsHeld, IsSteady, Opens, Gives, IsOpenAfter};
 ghost use Rattle.ss_base.specs.Sinks.{Gains};
 
+use thiserror::Error;
+
 /// The outside failed.
-#[derive(Clone, Copy, Debug, PartialEq, Eq)]
+#[derive(Clone, Copy, Debug, PartialEq, Eq, Error)]
+#[error("the outside failed")]
 pub struct Failed;
 
 /// Names that can be read, one at a time.

@@ -1,8 +1,10 @@
-// What no clause says: which calls of a shelf or a sink in memory fail, how much each moves, and
-// that calls which may find no memory do answer.
+// What no clause says: that calls which may find no memory do answer, and the texts of errors. The
+// shelf and the sink in memory are shown at work too.
 ghost use Rattle.std.specs.Prelude.{◌<◌};
 
-use crate::{Failed, MemShelf, MemSink, ReadStop, Shelf, Sink, Text, Texts, read_all, write_all};
+use crate::{
+    Failed, MemShelf, MemSink, OutOfMemory, ReadStop, Shelf, Sink, Text, Texts, read_all, write_all,
+};
 use std::alloc::Global;
 use std::test::Fail;
 
@@ -70,5 +72,29 @@ fn a_sink_takes_by_chunks_until_a_listed_write_or_its_room_ends(
     let mut small = MemSink::new(alloc, 3, Vec::new(alloc), 2)?;
     assert_eq!(rt; write_all(&mut small, b"abcde"), Err(Failed));
     assert_eq!(rt; small.bytes(), b"abc".as_slice());
+    Ok(())
+}
+
+#[test]
+fn an_error_says_what_failed(rt: HostRuntime) -> Result<(), Fail> {
+    let alloc = rt.alloc();
+    for (told, text) in [
+        (format!(in alloc; "{Failed}")?, "the outside failed"),
+        (format!(in alloc; "{OutOfMemory}")?, "out of memory"),
+        (
+            format!(in alloc; "{}", ReadStop::Failed)?,
+            "the outside failed",
+        ),
+        (
+            format!(in alloc; "{}", ReadStop::TooLong)?,
+            "longer than the limit",
+        ),
+        (
+            format!(in alloc; "{}", ReadStop::OutOfMemory)?,
+            "out of memory",
+        ),
+    ] {
+        assert_eq!(rt; told.as_str(), text);
+    }
     Ok(())
 }

@@ -8,15 +8,19 @@ ghost use Rattle.ss_base.specs.declared.transfer.ReadStop.TheVariants as stop;
 
 use crate::{Failed, Shelf, Sink};
 use std::alloc::{AllocError, AllocFailed, Global};
+use thiserror::Error;
 
 /// Why a name wasn't read whole.
-#[derive(Clone, Copy, Debug, PartialEq, Eq)]
+#[derive(Clone, Copy, Debug, PartialEq, Eq, Error)]
 pub enum ReadStop {
     /// The shelf failed.
+    #[error("the outside failed")]
     Failed,
     /// The name holds more bytes than the limit.
+    #[error("longer than the limit")]
     TooLong,
     /// There was no memory for the bytes.
+    #[error("out of memory")]
     OutOfMemory,
 }
 
