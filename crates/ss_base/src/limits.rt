@@ -21,6 +21,9 @@ pub const SCRIPT_LINES: usize = 65_536;
 /// The most bytes of a schedule.
 pub const SCHEDULE_BYTES: usize = SCRIPT_BYTES;
 
+/// The most delegates of a runtime.
+pub const DELEGATES: u32 = 64;
+
 /// The most objects of a runtime.
 pub const OBJECTS: usize = 1_048_576;
 
