@@ -3,8 +3,9 @@
 -- In an epoch each writable object is held to one set, or shared among readers, or neither. The
 -- refusals of a call are tried in the order of its row in `breaks`, and the first that holds is the
 -- answer.
-use Rattle.std.specs.Prelude.{ℕ, ◌^◌, Bool, not, ◌==◌, nat_le, if◌then◌else◌, Option, Some, None, List, length}
+use Rattle.std.specs.Prelude.{ℕ, Bool, not, ◌==◌, nat_le, if◌then◌else◌, Option, Some, None, List, length}
 use Rattle.ss_base.specs.Ids.{object_id, set_id}
+use Rattle.ss_base.specs.declared.limits.TheConstants as limits
 use Rattle.execution_definitions.specs.declared.refusal.Refusal.{Refusal}
 use Rattle.execution_definitions.specs.declared.refusal.Refusal.TheVariants.{UnknownObject, NotIsolating, Isolating, ReadOnly, TwoSets, Shared, SelfRead, Private, TooManyObjects, TooManyCalls}
 use Rattle.execution_definitions.specs.Shapes.{Shape, make, make_fixed, begin, delegate, write, get, end, total}
@@ -75,11 +76,11 @@ private_object calls object =
 
 -- the limit of objects is reached
 abbrev pub too_many_objects : ℕ → Option Refusal
-too_many_objects objects = refuse_if (nat_le 1048576 objects) TooManyObjects
+too_many_objects objects = refuse_if (nat_le limits.OBJECTS objects) TooManyObjects
 
 -- the limit of calls is reached
 abbrev pub too_many_calls : ℕ → Option Refusal
-too_many_calls calls = refuse_if (nat_le (2 ^ 60) calls) TooManyCalls
+too_many_calls calls = refuse_if (nat_le limits.CALLS calls) TooManyCalls
 
 -- the refusal of a call after these calls, or none
 abbrev pub breaks : List Shape → Shape → Option Refusal

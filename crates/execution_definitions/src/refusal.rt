@@ -44,10 +44,10 @@ pub enum Refusal {
         /// The set that it is held to.
         set: SetId,
     },
-    /// 1,048,576 objects were made.
+    /// As many objects were made as a runtime may have: `ss_base::limits::OBJECTS`.
     #[error("too many objects")]
     TooManyObjects,
-    /// 2^60 calls were accepted.
+    /// As many calls were accepted as a runtime may have: `ss_base::limits::CALLS`.
     #[error("too many calls")]
     TooManyCalls,
 }

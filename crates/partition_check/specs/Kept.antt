@@ -1,5 +1,6 @@
 -- What holds of the parts of marks between calls?
-use Rattle.std.specs.Prelude.{◌≡◌, ℕ, ◌^◌, ◌≤◌, Bool, true, List, length, All}
+use Rattle.std.specs.Prelude.{◌≡◌, ℕ, ◌≤◌, Bool, true, List, length, All}
+use Rattle.ss_base.specs.declared.limits.TheConstants as limits
 use Rattle.partition_check.specs.declared.cell.Cell.{Cell}
 use Rattle.partition_check.specs.Cells.{IsStamped}
 
@@ -10,8 +11,8 @@ pub record IsKept (cells : List Cell) (calls epochs : ℕ) (is_open : Bool)
   pub stamped : All (IsStamped epochs) cells
   -- an epoch takes a call, and calls are bounded, so the counts fit
   pub begun : epochs ≤ calls
-  pub call_limit : calls ≤ 2 ^ 60
+  pub call_limit : calls ≤ limits.CALLS
   -- a new cell, which has the stamp of no epoch, is clear in the one that is open
   pub first : is_open ≡ true → 1 ≤ epochs
-  pub object_limit : length cells ≤ 1048576
+  pub object_limit : length cells ≤ limits.OBJECTS
   pub sequences : sequence_objects ≤ length cells

@@ -14,13 +14,9 @@ ghost use Rattle.partition_check.specs.Answers.{Answers, AnswersRule};
 
 use crate::cell::Cell;
 use execution_definitions::Refusal;
+use ss_base::limits;
 use std::alloc::Global;
 use std::marker::Model;
-
-// How many calls are accepted, and how many objects are made, at most.
-const MOST_CALLS: u64 = 1 << 60;
-
-const MOST_OBJECTS: usize = 1_048_576;
 
 /// What the partition rule has to know of the calls so far: one mark an object, and a few counts.
 ///
@@ -131,7 +127,7 @@ impl Marks {
 fn room_for_a_call(calls: u64) -> Result<(), Refusal>
     ensures { Answers result (too_many_calls calls) }
 {
-    if calls >= MOST_CALLS {
+    if calls >= limits::CALLS {
         return Err(Refusal::TooManyCalls);
     }
     Ok(())

@@ -5,6 +5,7 @@
 #![tactic(auto)]
 
 ghost use Rattle.std.specs.Prelude.{◌≡◌, ◌≤◌, Some, List, [], ◌∷◌, ◌++◌, count_by};
+ghost use Rattle.ss_base.specs.declared.limits.TheConstants.{DELEGATES};
 ghost use Rattle.execution_definitions.specs.Shapes.{Shape, make, makes_by_sequence};
 ghost use Rattle.execution_definitions.specs.Sets.{serializer_by, set_by, lane_of_set, object_count};
 ghost use Rattle.execution_definitions.specs.Sets.{serializer_of as serializer_in, set_of as set_in};
@@ -50,7 +51,7 @@ pub fn set_of(serializer: Serializer, object: ObjectId, own: u64) -> SetId
 /// The lane of a set among `n` delegates: the set's number modulo `n`.
 pub fn lane_of(set: SetId, n: u32) -> Lane
     requires some_delegate { 1 ≤ n }
-    requires at_most_64 { n ≤ 64 }
+    requires few { n ≤ DELEGATES }
     ensures { result.0 ≡ lane_of_set set.0 n }
 {
     Lane((set.0 % u64::from(n)) as u8)

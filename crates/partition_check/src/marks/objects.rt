@@ -1,17 +1,18 @@
 // Making objects: the one call that takes memory.
 
-ghost use Rattle.std.specs.Prelude.{◌≡◌, ◌^◌, ◌<◌, OnOk, OnErr, IfOk, length};
+ghost use Rattle.std.specs.Prelude.{◌≡◌, ◌<◌, OnOk, OnErr, IfOk, length};
+ghost use Rattle.ss_base.specs.declared.limits.TheConstants as limits;
 ghost use Rattle.execution_definitions.specs.Refusals.{first_of, too_many_objects, too_many_calls};
 ghost use Rattle.partition_check.specs.Judged.{judged};
 ghost use Rattle.partition_check.specs.MarkedAfter.{marked_after, sequence_objects_making};
 ghost use Rattle.partition_check.specs.Represents.{RepresentsWith};
 ghost use Rattle.partition_check.specs.Answers.{Answers, AnswersMake, AnswersMakeRule, making};
 
-use super::{MOST_OBJECTS, Marks, room_for_a_call};
+use super::{Marks, room_for_a_call};
 use crate::cell::fresh_cell;
 use crate::fault::MarkFault;
 use execution_definitions::{By, Refusal};
-use ss_base::ObjectId;
+use ss_base::{ObjectId, limits};
 
 impl Marks {
     /// Makes an object with the serializer asked for, or a read-only one where none is. Ok gives
@@ -45,7 +46,7 @@ impl Marks {
 fn room_for_an_object(objects: usize, calls: u64) -> Result<(), Refusal>
     ensures { Answers result (first_of (too_many_objects objects) (too_many_calls calls)) }
 {
-    if objects >= MOST_OBJECTS {
+    if objects >= limits::OBJECTS {
         return Err(Refusal::TooManyObjects);
     }
     room_for_a_call(calls)
@@ -53,7 +54,7 @@ fn room_for_an_object(objects: usize, calls: u64) -> Result<(), Refusal>
 
 // How many objects by sequence there are with a new object.
 fn sequence_objects_with(by: Option<By>, count: u64) -> u64
-    requires { count < 2 ^ 60 }
+    requires { count < limits.CALLS }
     ensures { result ≡ sequence_objects_making by count }
 {
     match by {
