@@ -1,6 +1,6 @@
 // What no clause can say: that calls succeed where memory is ample, and that the refusals come in
 // the order of their rows, by a table written by hand. TooManyCalls, which stands last in every
-// row, can't be reached by a test.
+// row, can't be reached by a test. And the text of the fault.
 
 ghost use Rattle.std.specs.Prelude.{◌^◌, ◌<◌};
 ghost use Rattle.execution_definitions.specs.Meanings.{number_given};
@@ -8,7 +8,8 @@ ghost use Rattle.partition_check.specs.MarkedAfter.{HasMark};
 
 use crate::{MarkFault, Marks, Refusal};
 use execution_definitions::By;
-use ss_base::{ObjectId, SetId};
+use ss_base::{ObjectId, SetId, limits};
+use std::test::Fail;
 
 // A call of the program context: objects by number, an operation by the number that it names.
 #[derive(Clone, Copy)]
@@ -231,13 +232,28 @@ fn marks_tell_the_calls_the_epoch_and_the_sets(rt: HostRuntime) {
 }
 
 #[test]
-fn there_are_1048576_objects_at_most(rt: HostRuntime) {
+fn there_are_as_many_objects_as_the_limit_at_most(rt: HostRuntime) {
     let mut marks = Marks::new(rt.alloc());
-    for number in 0..1_048_576 {
+    for number in 0..limits::OBJECTS as u32 {
         assert_eq!(rt; marks.new_object(Some(By::Own)), Ok(ObjectId(number)));
     }
     for by in [None, Some(By::Object)] {
         let refused = Err(MarkFault::Refused(Refusal::TooManyObjects));
         assert_eq!(rt; marks.new_object(by), refused);
     }
+}
+
+#[test]
+fn a_fault_says_why_no_object_was_made(rt: HostRuntime) -> Result<(), Fail> {
+    for (fault, text) in [
+        (
+            MarkFault::Refused(Refusal::TooManyObjects),
+            "too many objects",
+        ),
+        (MarkFault::OutOfMemory, "out of memory"),
+    ] {
+        let told = format!(in rt.alloc(); "{fault}")?;
+        assert_eq!(rt; told.as_str(), text);
+    }
+    Ok(())
 }
