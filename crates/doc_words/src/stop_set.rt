@@ -4,6 +4,7 @@ ghost use Rattle.std.specs.List.Sorted.{IsStrictlySortedBy};
 ghost use Rattle.std.specs.Ordering.{nat_cmp};
 ghost use Rattle.std.specs.Cmp.Lexicographic.{slice_cmp};
 ghost use Rattle.std.specs.Str.{bytes_eq};
+ghost use Rattle.ss_base.specs.declared.limits.TheConstants.{STOP_LIST_BYTES};
 ghost use Rattle.index_definitions.specs.Words.{terms_in};
 ghost use Rattle.index_definitions.specs.Terms.{has_term, HaveSameTerms, rising_terms};
 
@@ -48,7 +49,7 @@ impl StopSet {
 
     /// The terms of the words of a stop list of at most 8 MiB, which is read as a document is.
     pub fn of(alloc: Global, bytes: &[u8]) -> Result<StopSet, OutOfMemory>
-        requires { length bytes.now ≤ 8388608 }
+        requires { length bytes.now ≤ STOP_LIST_BYTES }
         ensures terms { IfOk result (λ set. set ≡ rising_terms (terms_in bytes.now)) }
         ensures stops { IfOk result (λ set. HaveSameTerms set (terms_in bytes.now)) }
     {

@@ -1,5 +1,6 @@
 // What no clause says: that words are found, by examples from the standard.
 ghost use Rattle.std.specs.Prelude.{◌≤◌, length};
+ghost use Rattle.ss_base.specs.declared.limits.TheConstants.{DOCUMENT_BYTES};
 
 use crate::{StopSet, words_of};
 use ss_base::OutOfMemory;
@@ -8,7 +9,7 @@ use std::test::Fail;
 
 // The terms of these bytes, each behind its position.
 fn listed(alloc: Global, bytes: &[u8]) -> Result<String, OutOfMemory>
-    requires { length bytes.now ≤ 8388608 }
+    requires { length bytes.now ≤ DOCUMENT_BYTES }
 {
     let mut text = String::new(alloc);
     for word in &words_of(alloc, bytes)? {

@@ -1,5 +1,6 @@
 // The words of a document.
 ghost use Rattle.std.specs.Prelude.{◌≡◌, ◌≤◌, map, length, IfOk};
+ghost use Rattle.ss_base.specs.declared.limits.TheConstants.{DOCUMENT_BYTES};
 ghost use Rattle.index_definitions.specs.Words.{words_in};
 
 use crate::{Terms, text_of};
@@ -20,7 +21,7 @@ pub struct Word {
 /// The bytes are read as UTF-8, with U+FFFD for what is malformed, and cut at the word boundaries of
 /// Unicode Standard Annex 29. The words are the segments that hold an alphanumeric character.
 pub fn words_of(alloc: Global, bytes: &[u8]) -> Result<Vec<Word>, OutOfMemory>
-    requires { length bytes.now ≤ 8388608 }
+    requires { length bytes.now ≤ DOCUMENT_BYTES }
     ensures { IfOk result (λ words.
         map (λ word. (word.position, word.term)) words.items ≡ words_in bytes.now) }
 {

@@ -1,6 +1,7 @@
 // The counted words of a document that was split.
 ghost use Rattle.std.specs.Prelude.{◌≡◌, ◌≤◌, ◌<◌, [], length, map, max, chars, IfOk};
 ghost use Rattle.std.specs.List.{slice_index_or};
+ghost use Rattle.ss_base.specs.declared.limits.TheConstants.{DOCUMENT_BYTES};
 ghost use Rattle.index_definitions.specs.Words.{word_terms, positions_of};
 ghost use Rattle.index_definitions.specs.Terms.{longest_of};
 ghost use Rattle.index_definitions.specs.Postings.{counted_words};
@@ -86,7 +87,7 @@ fn longest_of(terms: &TextList) -> u64
 impl CountedWords {
     /// The counted words of a document of at most 8 MiB.
     pub fn split(alloc: Global, stop: &StopSet, bytes: &[u8]) -> Result<CountedWords, OutOfMemory>
-        requires { length bytes.now ≤ 8388608 }
+        requires { length bytes.now ≤ DOCUMENT_BYTES }
         ensures { IfOk result (λ counted. counted.words ≡ counted_words stop.now bytes.now) }
     {
         let (terms, numbers) = number_words(alloc, stop, bytes)?;

@@ -1,11 +1,12 @@
 // From a document's bytes to numbers: its distinct counted terms, and one number for each word.
 ghost use Rattle.std.specs.Prelude.{◌≡◌, ℕ, ◌≤◌, ◌<◌, ◌-◌, false, Some, length, IfOk, MatchBool};
 ghost use Rattle.std.specs.List.{All, slice_get};
+ghost use Rattle.ss_base.specs.declared.limits.TheConstants.{DOCUMENT_BYTES};
 ghost use Rattle.text_table.specs.TextTables.{with_text};
 ghost use Rattle.index_definitions.specs.Terms.{has_term};
 ghost use Rattle.index_definitions.specs.Postings.{counted_words};
 ghost use Rattle.document_terms.specs.Counted.{AreTermsOf};
-ghost use Rattle.document_terms.specs.kept.Numbers.{words_from};
+ghost use Rattle.document_terms.specs.kept.Numbers.{most_words, words_from};
 
 use doc_words::{StopSet, Terms, text_of};
 use ss_base::OutOfMemory;
@@ -15,7 +16,7 @@ use text_table::{TextList, TextTable};
 // The number of a word: 0 for a stopped one, else 1 more than that of its term, which is kept. The
 // stop list isn't asked about a term that is known.
 fn number_of_word(stop: &StopSet, terms: &mut TextTable, term: &str) -> Result<u32, OutOfMemory>
-    requires few { length terms.old ≤ 25165824 }
+    requires few { length terms.old ≤ most_words }
     requires counted { All (λ t. has_term stop.now t ≡ false) terms.old }
     ensures { IfOk result (λ number. MatchBool (has_term stop.now term.now)
         ((number ≡ 0) × (terms.new ≡ terms.old))
@@ -36,11 +37,11 @@ pub(crate) fn number_words(
     stop: &StopSet,
     bytes: &[u8],
 ) -> Result<(TextList, Vec<u32>), OutOfMemory>
-    requires { length bytes.now ≤ 8388608 }
+    requires { length bytes.now ≤ DOCUMENT_BYTES }
     ensures words { IfOk result (λ r. words_from r.0 r.1.items ≡ counted_words stop.now bytes.now) }
     ensures terms { IfOk result (λ r. AreTermsOf r.0 (words_from r.0 r.1.items)) }
     ensures within { IfOk result (λ r. All (λ number. number ≤ length r.0) r.1.items) }
-    ensures few { IfOk result (λ r. length r.1.items ≤ 25165824) }
+    ensures few { IfOk result (λ r. length r.1.items ≤ most_words) }
 {
     let text = text_of(alloc, bytes)?;
     let mut left = Terms::new(text.as_str());

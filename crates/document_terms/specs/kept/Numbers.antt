@@ -1,13 +1,18 @@
 -- Which counted words do distinct terms and one number for each word stand for?
 --
 -- A stopped word has the number 0, and a counted word 1 more than the place of its term.
-use Rattle.std.specs.Prelude.{◌≡◌, ℕ, ◌-◌, ◌≤◌, nat_lt, List, [], map, filter, length}
+use Rattle.std.specs.Prelude.{◌≡◌, ℕ, ◌-◌, ◌*◌, ◌≤◌, nat_lt, List, [], map, filter, length}
 use Rattle.std.specs.List.{enumerate_from, slice_index_or, All}
+use Rattle.ss_base.specs.declared.limits.TheConstants.{DOCUMENT_BYTES}
 use Rattle.index_definitions.specs.Words.{Word, word_terms}
 use Rattle.index_definitions.specs.Terms.{longest_of}
 use Rattle.document_terms.specs.Shards.{shard_of}
 use Rattle.document_terms.specs.Counted.{Counted, AreTermsOf}
 use Rattle.document_terms.specs.kept.Groups.{AreGrouped}
+
+-- the most words of a document: a malformed byte is read as three, and a word has one at least
+abbrev pub most_words : ℕ
+most_words = 3 * DOCUMENT_BYTES
 
 -- a word with the term of its number
 abbrev pub word_at : List (List ℕ) → ℕ × ℕ → Word

@@ -1,5 +1,6 @@
 use Rattle.std.proofs.Common.{◌≡◌, ◌≤◌, drop, length}
 use Rattle.index_definitions.specs.Words.{terms_in}
+use Rattle.document_terms.specs.kept.Numbers.{most_words}
 use Rattle.document_terms.proofs.NumberingLemmas.{Numbers}
 use Rattle.document_terms.proofs.numbering.number_words.Given as goal
 
@@ -10,7 +11,7 @@ invariant-loop-numbers l =
       numbers : Numbers l.stop l.terms (terms_in l.fn.bytes) l.numbers.items;
       left : l.left ≡ drop (length l.numbers.items) (terms_in l.fn.bytes);
       taken : length l.numbers.items ≤ length (terms_in l.fn.bytes);
-      total : length (terms_in l.fn.bytes) ≤ 25165824;
+      total : length (terms_in l.fn.bytes) ≤ most_words;
     }
 
 abbrev pub decreases-loop-numbers : goal.decreases-loop-numbers
