@@ -2,13 +2,13 @@
 --
 -- An accepted call goes on as the program does without delegates. A refused call changes nothing.
 -- After a want of memory every call is answered so.
-use Rattle.std.specs.Prelude.{◌≡◌, ℕ, zero, suc, true, false, Option, Some, None, Result, Ok, Err, List, [], ◌∷◌, ◌++◌, ◌⊎◌, slice_get}
+use Rattle.std.specs.Prelude.{◌≡◌, ℕ, zero, suc, Bool, true, false, Option, Some, None, Result, Ok, Err, List, [], ◌∷◌, ◌++◌, ◌⊎◌, slice_get}
 use Rattle.ss_base.specs.declared.ids.Run.{Run}
 use Rattle.ss_base.specs.declared.ids.SetId.{SetId}
 use Rattle.ss_base.specs.Ids.{set_id, call_no}
 use Rattle.execution_definitions.specs.declared.refusal.Refusal.{Refusal}
 use Rattle.execution_definitions.specs.declared.call.Call.{Call}
-use Rattle.execution_definitions.specs.declared.call.Call.TheVariants.{Delegate, Write, Get}
+use Rattle.execution_definitions.specs.declared.call.Call.TheVariants.{Delegate, Write, Get, Total}
 use Rattle.execution_definitions.specs.declared.call.Reply.{Reply}
 use Rattle.execution_definitions.specs.Sets.{lane_of_set}
 use Rattle.execution_definitions.specs.Refusals.{breaks}
@@ -50,6 +50,20 @@ abbrev pub Reclaims :
 Reclaims old new (Write object op) = HasCaughtUp new (set_delegated old.marks object.0)
 Reclaims old new (Get object) = HasCaughtUp new (set_delegated old.marks object.0)
 Reclaims old new _ = Unit {0}
+
+-- a call whose reply is lent, and so copied where the call is made as a value
+abbrev pub is_copied : {C O : Type 0} → Call C O → Bool
+is_copied (Get object) = true
+is_copied Total = true
+is_copied _ = false
+
+-- what a runtime says of a call that is made as a value, from what it says of the call by itself:
+-- where just the reply's copy found no memory, that the call was done
+abbrev pub MakesSaying :
+    {C O : Type 0} → (Option Fault → Type 0) → Call C O → Option Fault → Type 0
+MakesSaying says call (Some OutOfMemory) =
+    says (Some OutOfMemory) ⊎ ((is_copied call ≡ true) × says None)
+MakesSaying says call fault = says fault
 
 module _ {C O R : Type 0} (m : Meaning C O R) where
   -- the run of a delegation that is accepted now
@@ -96,11 +110,12 @@ module _ {C O R : Type 0} (m : Meaning C O R) where
   Answered to_reply old new call (Err (Refused refusal)) = Refuses old new call refusal
   Answered to_reply old new call (Err OutOfMemory) = new.has_failed ≡ true
 
-  -- what the answer of a call says that is made as a value: the reply is a copy, and a want of memory
-  -- may be the copy's alone
+  -- what the answer of a call says that is made as a value: a want of memory may be that of the
+  -- reply's copy alone, and then the call was accepted
   abbrev pub Makes :
       RuntimeView C R → RuntimeView C R → Call C O → Result (Reply C R) Fault → Type 0
-  Makes old new call (Err OutOfMemory) = (new.has_failed ≡ true) ⊎ Accepts old new call
+  Makes old new call (Err OutOfMemory) =
+      (new.has_failed ≡ true) ⊎ ((is_copied call ≡ true) × Accepts old new call)
   Makes old new call result = Answered (λ reply. reply) old new call result
 
   -- what a fault says of a list of calls that the runtime was after

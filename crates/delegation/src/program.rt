@@ -1,9 +1,8 @@
 // A whole list of calls, made one after the other.
-ghost use Rattle.std.specs.Prelude.{◌≡◌, Some, [], IfOk};
+ghost use Rattle.std.specs.Prelude.{◌≡◌, [], IfOk};
 ghost use Rattle.delegation.specs.Runtimes.{IsAfter};
-ghost use Rattle.delegation.specs.Answers.{Makes, AnswersEachList, fault_in};
+ghost use Rattle.delegation.specs.Answers.{Makes, MakesSaying, AnswersEachList, fault_in};
 ghost use Rattle.delegation.specs.Programs.{HasRun};
-ghost use Rattle.delegation.specs.declared.call.Fault.TheVariants as fault;
 
 use crate::call::{Call, Fault, Reply};
 use crate::delegation::Delegation;
@@ -25,8 +24,8 @@ pub struct Ran<C: Class> {
 
 /// Makes a call that is a value.
 ///
-/// The answer says what the same call of `Delegation` says, but that a want of memory may be that of
-/// the reply's copy alone: then the runtime took the call.
+/// The answer says what the same call of `Delegation` says. Only of `Get` and `Total`, whose replies
+/// are copied, a want of memory may be that of the copy alone: then the runtime took the call.
 pub fn make_call<C: Class, D: Delegation<C>, R: Threads + Wait + Copy + Send + Sync + 'static>(
     rt: &R,
     alloc: Global,
@@ -35,8 +34,7 @@ pub fn make_call<C: Class, D: Delegation<C>, R: Threads + Wait + Copy + Send + S
 ) -> Result<Reply<C>, Fault>
     ensures made { Makes C.meaning (D.seen d.old) (D.seen d.new) call result }
     ensures follows { AnswersEachList C.meaning (D.seen d.old) (D.seen d.new) call result }
-    ensures moves { ¬ (fault_in result ≡ Some fault.OutOfMemory) →
-        D.moves d.old d.new call (fault_in result) }
+    ensures moves { MakesSaying (λ fault. D.moves d.old d.new call fault) call (fault_in result) }
 {
     match call {
         Call::Make { value, by } => Ok(Reply::Made(d.make(value, by)?)),
