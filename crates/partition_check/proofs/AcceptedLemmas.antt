@@ -1,18 +1,19 @@
 -- What an accepted call needs of the marks.
 use Rattle.std.proofs.Common.{◌≡◌, ℕ, ◌^◌, ◌<◌, Bool, true, false, not, Option, Some, None, List, length, refl, sym, ◌∙◌, subst, arith}
-use Rattle.std.specs.Prelude.{Result, Ok, Err, OnOk, nat_le}
+use Rattle.std.specs.Prelude.{Result, Ok, Err, OnOk, nat_le, ◌==◌, is_some, is_none, if◌then◌else◌}
 use Rattle.std.proofs.lemmas.Bool.Decides.{nat_tests}
 use Rattle.std.proofs.lemmas.Option.{slice_get_within, same_Some}
 use Rattle.execution_definitions.specs.declared.refusal.Refusal.{Refusal}
 use Rattle.execution_definitions.specs.declared.refusal.Refusal.TheVariants.{NotIsolating, TooManyObjects, TooManyCalls}
+use Rattle.execution_definitions.specs.declared.serializer.Serializer.{Serializer}
 use Rattle.execution_definitions.specs.Shapes.{delegate, write}
-use Rattle.execution_definitions.specs.Refusals.{first_of, refuse_if, if_reading, two_sets_if, self_read, too_many_objects, too_many_calls}
+use Rattle.execution_definitions.specs.Refusals.{first_of, refuse_if, if_reading, two_sets_if, self_read, private_if, too_many_objects, too_many_calls}
 use Rattle.execution_definitions.proofs.RefusalsLemmas.{first_of-none}
 use Rattle.partition_check.specs.declared.mark.Mark.{Mark}
 use Rattle.partition_check.specs.Marked.{Marked, mark_at, set_marked, held_in}
-use Rattle.partition_check.specs.Judged.{judged, judged_delegate, judged_write, unknown_if, unknown_read, read_only_if, shared_if, private_read}
+use Rattle.partition_check.specs.Judged.{judged, judged_delegate, judged_write, unknown_if, unknown_read, read_only_if, shared_if, private_in, private_read}
 use Rattle.partition_check.specs.MarkedAfter.{HasMark}
-use Rattle.partition_check.specs.Delegable.{IsDelegable}
+use Rattle.partition_check.specs.Delegable.{IsFree, IsReadFree, IsReadOther, IsDelegable}
 use Rattle.partition_check.specs.Answers.{Answers}
 
 -- what an accepted delegation needs of the marks
@@ -42,6 +43,26 @@ is_open_then false none = absurd cc
 refused_not : (test : Bool) (refusal : Refusal) → refuse_if test refusal ≡ None → test ≡ false
 refused_not true refusal none = absurd cc
 refused_not false refusal none = refl
+
+-- an object that isn't refused as private may be read
+free_mark : (object : ℕ) (mark : Mark) → private_in object (Some mark) ≡ None → IsFree mark
+free_mark object mark none = λ writable. by_serializer mark.serializer (held_in mark) writable none where
+  by_serializer : (s : Option Serializer) (held : Option ℕ) → is_some s ≡ true →
+      (if is_none s then None else private_if object held) ≡ None → held ≡ None
+  by_serializer None held writable none = absurd cc
+  by_serializer (Some s) None writable none = refl
+  by_serializer (Some s) (Some set) writable none = absurd cc
+
+free_read : (marked : Marked) (reading : Option ℕ) →
+    if_reading reading (private_read marked) ≡ None → IsReadFree reading marked.objects
+free_read marked None none = tt
+free_read marked (Some read) none = λ mark some.
+    free_mark read mark (subst (λ m. private_in read m ≡ None) some none)
+
+other_read : (object : ℕ) (reading : Option ℕ) →
+    if_reading reading (self_read object) ≡ None → IsReadOther reading object
+other_read object None none = tt
+other_read object (Some read) none = refused_not (read == object) _ none
 
 -- there is room for a call where the limit isn't reached
 call_room : (calls : ℕ) → too_many_calls calls ≡ None → calls < 2 ^ 60
@@ -77,6 +98,8 @@ delegable marked object own reading accepted = by_mark (mark_at marked object) r
             (same_Some mark same (sym some ∙ is))
             (refused_not mark.shared _ unshared.0);
         read_known = has_mark marked reading read.0;
+        read_other = other_read object reading other.0;
+        read_free = free_read marked reading free.0;
         room = call_room marked.calls free.1;
       }
 

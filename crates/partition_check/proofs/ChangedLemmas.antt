@@ -7,6 +7,7 @@ use Rattle.std.proofs.lemmas.Bool.Decides.{nat_tests}
 use Rattle.std.proofs.lemmas.Option.{same_Some}
 use Rattle.partition_check.specs.declared.mark.Mark.{Mark}
 use Rattle.partition_check.specs.MarkedAfter.{changed_at, changed_where}
+use Rattle.partition_check.specs.Delegable.{IsReadFree, IsReadOther}
 
 -- the old mark behind a mapped one
 pub mapped_mark : {A : Type 0} (change : Mark → Mark) (old : Option Mark) (mark : Mark) →
@@ -32,6 +33,15 @@ slice_get-changed_elsewhere change (mark ∷ marks) zero (suc object) other = re
 slice_get-changed_elsewhere change (mark ∷ marks) (suc i) zero other = refl
 slice_get-changed_elsewhere change (mark ∷ marks) (suc i) (suc object) other =
     slice_get-changed_elsewhere change marks i object (grind (arith, nat_tests))
+
+-- an object to be read stays as it is where another is changed
+pub IsReadFree-elsewhere : (change : Mark → Mark) (marks : List Mark) (object : ℕ)
+    (reading : Option ℕ) → IsReadOther reading object → IsReadFree reading marks →
+    IsReadFree reading (changed_at object change marks)
+IsReadFree-elsewhere change marks object None other free = tt
+IsReadFree-elsewhere change marks object (Some read) other free = λ mark some.
+    free mark (sym (slice_get-changed_elsewhere change marks object read
+    (grind (arith, nat_tests))) ∙ some)
 
 pub length-changed_at : (change : Mark → Mark) (marks : List Mark) (i : ℕ) →
     length (changed_at i change marks) ≡ length marks

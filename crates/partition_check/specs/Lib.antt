@@ -1,4 +1,5 @@
 pub mod Marked
+pub mod Usages
 pub mod Cells
 pub mod Kept
 pub mod Judged

@@ -5,9 +5,11 @@ ghost use Rattle.std.specs.Option.{option_map};
 ghost use Rattle.execution_definitions.specs.Sets.{set_under};
 ghost use Rattle.partition_check.specs.Cells.{mark_in, IsStamped};
 ghost use Rattle.partition_check.specs.Marked.{held_in};
+ghost use Rattle.partition_check.specs.Delegable.{IsFree};
 ghost use Rattle.partition_check.specs.MarkedAfter.{serializer_making, fresh_mark, with_set, with_reader, freed_mark};
 
 use crate::mark::Mark;
+use crate::usage::Usage;
 use execution_definitions::{By, Serializer};
 use serializer::serializer_of;
 use ss_base::{ObjectId, SetId};
@@ -20,12 +22,8 @@ use ss_base::{ObjectId, SetId};
 pub struct Cell {
     /// What the object's maker asked for. None of a read-only object.
     pub by: Option<By>,
-    /// The object is held to the set of its last delegation.
-    pub is_held: bool,
-    /// It was held, and a write or a get freed it.
-    pub was_freed: bool,
-    /// Operations read the object, which is writable.
-    pub was_read: bool,
+    /// How the object was used in the epoch of the stamp; of a read-only object any.
+    pub usage: Usage,
     /// The stamp: the last epoch in which an operation was delegated to the object or, if it is
     /// writable, read it.
     pub epoch: u64,
@@ -44,9 +42,7 @@ pub fn fresh_cell(by: Option<By>, sequence_objects: u64) -> Cell
 {
     Cell {
         by,
-        is_held: false,
-        was_freed: false,
-        was_read: false,
+        usage: Usage::Unused,
         epoch: 0,
         set: SetId(sequence_objects),
     }
@@ -70,7 +66,7 @@ impl Cell {
         Mark {
             serializer: serializer_in(self.by, self.set.0),
             set: self.last_set(epochs, is_open),
-            is_held: self.is_stamped(epochs, is_open) && self.is_held,
+            is_held: self.is_stamped(epochs, is_open) && self.usage.holds(),
             shared: self.is_shared(epochs, is_open),
         }
     }
@@ -78,7 +74,7 @@ impl Cell {
     fn last_set(&self, epochs: u64, is_open: bool) -> Option<SetId>
         ensures { result ≡ (mark_in epochs is_open self.now).set }
     {
-        if self.is_stamped(epochs, is_open) && (self.is_held || self.was_freed) {
+        if self.is_stamped(epochs, is_open) && self.usage.was_delegated_to() {
             Some(self.set)
         } else {
             None
@@ -89,7 +85,7 @@ impl Cell {
     pub fn held(&self, epochs: u64, is_open: bool) -> Option<SetId>
         ensures { option_map (λ set. set.0) result ≡ held_in (mark_in epochs is_open self.now) }
     {
-        if self.is_stamped(epochs, is_open) && self.is_held {
+        if self.is_stamped(epochs, is_open) && self.usage.holds() {
             Some(self.set)
         } else {
             None
@@ -100,7 +96,7 @@ impl Cell {
     pub fn is_shared(&self, epochs: u64, is_open: bool) -> bool
         ensures { result ≡ (mark_in epochs is_open self.now).shared }
     {
-        self.by.is_some() && self.is_stamped(epochs, is_open) && self.was_read
+        self.by.is_some() && self.is_stamped(epochs, is_open) && self.usage.was_read()
     }
 
     fn is_stamped(&self, epochs: u64, is_open: bool) -> bool
@@ -130,15 +126,15 @@ impl Cell {
             mark_in epochs true self.new ≡ with_set object own (mark_in epochs true self.old) }
         ensures stamped { IsStamped epochs self.new }
     {
-        self.is_held = true;
-        self.was_freed = false;
-        self.was_read = false;
+        self.usage = Usage::Held;
         self.epoch = epochs;
         self.set = set;
     }
 
-    /// Marks that an operation in the open epoch reads the object, if it is writable.
+    /// Marks that an operation in the open epoch reads the object, if it is writable. It isn't held
+    /// to a set then.
     pub fn share(&mut self, epochs: u64)
+        requires free { IsFree (mark_in epochs true self.old) }
         ensures mark { mark_in epochs true self.new ≡ with_reader (mark_in epochs true self.old) }
         ensures stamped { IsStamped epochs self.old → IsStamped epochs self.new }
     {
@@ -146,11 +142,12 @@ impl Cell {
             return;
         }
         // What was done in an earlier epoch is forgotten.
-        if self.epoch != epochs {
-            self.is_held = false;
-            self.was_freed = false;
-        }
-        self.was_read = true;
+        let usage = if self.epoch == epochs {
+            self.usage
+        } else {
+            Usage::Unused
+        };
+        self.usage = usage.read();
         self.epoch = epochs;
     }
 
@@ -161,9 +158,6 @@ impl Cell {
             mark_in epochs is_open self.new ≡ freed_mark (mark_in epochs is_open self.old) }
         ensures stamped { (epochs : ℕ) → IsStamped epochs self.old → IsStamped epochs self.new }
     {
-        if self.is_held {
-            self.is_held = false;
-            self.was_freed = true;
-        }
+        self.usage = self.usage.freed();
     }
 }

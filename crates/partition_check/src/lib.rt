@@ -13,6 +13,7 @@ mod mark;
 mod marks;
 #[cfg(test)]
 mod tests;
+mod usage;
 
 pub use execution_definitions::Refusal;
 pub use fault::MarkFault;

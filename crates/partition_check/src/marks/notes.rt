@@ -1,15 +1,16 @@
 // The notes: what an accepted call leaves in the marks.
 
 ghost use Rattle.std.specs.Prelude.{◌≡◌, ℕ, ◌^◌, ◌<◌, true, OnOk, OnErr, IfOk};
-ghost use Rattle.std.specs.Prelude.{List, None, [], ◌∷◌, ◌++◌, length};
+ghost use Rattle.std.specs.Prelude.{List, Some, None, [], ◌∷◌, ◌++◌, length};
 ghost use Rattle.execution_definitions.specs.Shapes.{Shape, delegate};
 ghost use Rattle.execution_definitions.specs.Sets.{set_of as set_in};
 ghost use Rattle.execution_definitions.specs.Refusals.{breaks};
 ghost use Rattle.partition_check.specs.Marked.{mark_at, set_marked};
+ghost use Rattle.partition_check.specs.declared.mark.Mark.{Mark};
 ghost use Rattle.partition_check.specs.Judged.{judged};
 ghost use Rattle.partition_check.specs.MarkedAfter.{marked_after, marked_noted, HasMark};
 ghost use Rattle.partition_check.specs.MarkedAfter.{changed_at, with_set, with_reader, freed_mark, with_reader_at, changed_where};
-ghost use Rattle.partition_check.specs.Delegable.{IsUnshared, IsSetFor, IsDelegable};
+ghost use Rattle.partition_check.specs.Delegable.{IsFree, IsReadFree, IsUnshared, IsSetFor, IsDelegable};
 ghost use Rattle.partition_check.specs.Represents.{Represents, RepresentsWith, IsNotedWith};
 ghost use Rattle.execution_definitions.specs.Meanings.{number_given};
 ghost use Rattle.partition_check.specs.Answers.{Answers, AnswersRule};
@@ -109,6 +110,7 @@ impl Marks {
     fn share(&mut self, reading: Option<ObjectId>)
         requires known { HasMark (number_given reading) self.old.objects }
         requires isolating { self.old.is_open ≡ true }
+        requires free { IsReadFree (number_given reading) self.old.objects }
         ensures { self.new ≡
             record self.old { objects = with_reader_at (number_given reading) self.old.objects } }
     {
@@ -120,6 +122,7 @@ impl Marks {
     fn share_one(&mut self, o: ObjectId)
         requires known { o.0 < length self.old.objects }
         requires isolating { self.old.is_open ≡ true }
+        requires free { (mark : Mark) → mark_at self.old o.0 ≡ Some mark → IsFree mark }
         ensures { self.new ≡
             record self.old { objects = changed_at o.0 with_reader self.old.objects } }
     {
