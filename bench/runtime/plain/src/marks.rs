@@ -16,9 +16,9 @@ const MOST_CALLS: u64 = 1 << 60;
 
 #[derive(Clone, Copy)]
 #[allow(dead_code)] // the measured objects are mapped in one of the three ways
-enum Serializer {
+enum By {
     Object,
-    Sequence(u64),
+    Sequence,
     Own,
 }
 
@@ -36,12 +36,21 @@ enum Refusal {
     TooManyCalls,
 }
 
-/// What is known of an object. The set and the reader count in the epochs beside them alone.
+/// What is known of an object. The set, and whether the object is held to it, count in the epoch of
+/// the set alone, and the reader in that of the reader.
 struct Mark {
-    serializer: Option<Serializer>,
+    by: Option<By>,
+    is_held: bool,
     set_epoch: u64,
+    /// Of an object by sequence the only set that it can have, from the start.
     set: u64,
     read_epoch: u64,
+}
+
+impl Mark {
+    fn is_held_in(&self, epoch: u64) -> bool {
+        self.set_epoch == epoch && self.is_held
+    }
 }
 
 struct Marks {
@@ -54,11 +63,12 @@ struct Marks {
 impl Marks {
     // Objects that are mapped by the object, and one more that is read-only.
     fn new(objects: u32) -> Marks {
-        let serializers = (0..objects).map(|_| Some(Serializer::Object));
-        let objects = serializers
+        let objects = (0..objects)
+            .map(|_| Some(By::Object))
             .chain([None])
-            .map(|serializer| Mark {
-                serializer,
+            .map(|by| Mark {
+                by,
+                is_held: false,
                 set_epoch: 0,
                 set: 0,
                 read_epoch: 0,
@@ -107,13 +117,13 @@ impl Marks {
         if !self.is_open {
             return Err(Refusal::NotIsolating);
         }
-        let set = match mark.serializer {
+        let set = match mark.by {
             None => return Err(Refusal::ReadOnly(object)),
-            Some(Serializer::Object) => u64::from(object),
-            Some(Serializer::Sequence(number)) => number,
-            Some(Serializer::Own) => own,
+            Some(By::Object) => u64::from(object),
+            Some(By::Sequence) => mark.set,
+            Some(By::Own) => own,
         };
-        if mark.set_epoch == epoch && mark.set != set {
+        if mark.is_held_in(epoch) && mark.set != set {
             return Err(Refusal::TwoSets(object, mark.set, set));
         }
         if mark.read_epoch == epoch {
@@ -123,12 +133,13 @@ impl Marks {
             if number == object {
                 return Err(Refusal::SelfRead(number));
             }
-            if other.serializer.is_some() && other.set_epoch == epoch {
+            if other.by.is_some() && other.is_held_in(epoch) {
                 return Err(Refusal::Private(number, other.set));
             }
         }
         self.count_call()?;
         let mark = &mut self.objects[object as usize];
+        mark.is_held = true;
         mark.set_epoch = epoch;
         mark.set = set;
         if let Some(number) = reading {
