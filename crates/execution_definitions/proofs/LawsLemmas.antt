@@ -17,12 +17,12 @@ use Rattle.execution_definitions.specs.Laws.{HasOpenBegin, EpochIsOpenFromItsBeg
 -- ---- an epoch is open
 
 -- the calls behind the last that passes are the end of the list, and none of them passes
-record IsSplit (test : Shape → Bool) (calls recent : List Shape) : Type 0 where
-  front : List Shape
-  is : calls ≡ front ++ recent
-  none : list_any test recent ≡ false
+pub record IsSplit (test : Shape → Bool) (calls recent : List Shape) : Type 0 where
+  pub front : List Shape
+  pub is : calls ≡ front ++ recent
+  pub none : list_any test recent ≡ false
 
-since_splits : (test : Shape → Bool) (calls front recent : List Shape) →
+pub since_splits : (test : Shape → Bool) (calls front recent : List Shape) →
     list_any test recent ≡ false →
     IsSplit test (front ++ recent ++ calls) (fold (since_step test) recent calls)
 since_splits test [] front recent none =
@@ -46,7 +46,7 @@ since_splits test (call ∷ calls) front recent none =
           (splits front (recent ++ call ∷ []) (rw (list_any-append, none, is) refl))
 
 -- where none passes all are behind the last that does
-since_none : (test : Shape → Bool) (calls recent : List Shape) → list_any test calls ≡ false →
+pub since_none : (test : Shape → Bool) (calls recent : List Shape) → list_any test calls ≡ false →
     fold (since_step test) recent calls ≡ recent ++ calls
 since_none test [] recent none = rw append-nil refl
 since_none test (call ∷ calls) recent none =
@@ -59,7 +59,7 @@ since_none test (call ∷ calls) recent none =
       by_test true none rest = absurd cc
       by_test false none rest = rest none ∙ append_assoc recent (call ∷ []) calls
 
-begin_if : (call : Shape) → is_begin call ≡ true → call ≡ begin
+pub begin_if : (call : Shape) → is_begin call ≡ true → call ≡ begin
 begin_if begin is = refl
 begin_if (make by) is = absurd cc
 begin_if make_fixed is = absurd cc

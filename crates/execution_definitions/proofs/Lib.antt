@@ -6,6 +6,7 @@ pub mod HeldLemmas
 pub mod RefusalsLemmas
 pub mod RunsLemmas
 pub mod LawsLemmas
+pub mod LastDelegationLemmas
 pub mod WorkedCases
 pub mod SequentialLemmas
 pub mod ProgramsLemmas

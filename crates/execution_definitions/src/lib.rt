@@ -16,7 +16,10 @@ mod refusal;
 mod serializer;
 
 pub use call::{Call, Reply};
-pub use laws::{an_epoch_is_open_from_its_begin, the_first_break_is_the_least};
+pub use laws::{
+    an_epoch_is_open_from_its_begin, an_object_is_held_from_its_last_delegation,
+    the_first_break_is_the_least,
+};
 pub use refusal::Refusal;
 pub use serializer::{By, Serializer};
 
