@@ -6,11 +6,11 @@ use Rattle.std.proofs.lemmas.List.Sums.{fold-append}
 use Rattle.std.proofs.lemmas.List.Folds.{list_any-append}
 use Rattle.execution_definitions.specs.declared.serializer.Serializer.{Serializer}
 use Rattle.execution_definitions.specs.Shapes.{Shape, make, make_fixed, begin, delegate, write, get, end, total, is_begin, reads}
-use Rattle.execution_definitions.specs.Sets.{object_count, serializer_of, set_under}
+use Rattle.execution_definitions.specs.Sets.{object_count, serializer_in, set_under}
 use Rattle.execution_definitions.specs.Epochs.{since_step, since, isolating, this_epoch}
 use Rattle.execution_definitions.specs.Held.{frees, later_set, last_set_among, last_set, held_set}
 use Rattle.execution_definitions.proofs.EpochsLemmas.{IsWithin, since-push, this_epoch-within, or-false}
-use Rattle.execution_definitions.proofs.SetsLemmas.{serializer_of-kept}
+use Rattle.execution_definitions.proofs.SetsLemmas.{serializer_in-kept}
 
 -- the set of the last delegation among calls, with one call more
 pub last_set_among-push : (s : Option Serializer) (object : ℕ) (calls : List Shape) (call : Shape) →
@@ -90,18 +90,18 @@ module _ (calls : List Shape) (call : Shape) (object : ℕ) (within : IsWithin c
   -- the set of the object's last delegation
   pub last_set-push : last_set (calls ++ call ∷ []) object ≡
       (if isolating calls
-      then later_set (serializer_of calls object) object (last_set calls object) call else None)
+      then later_set (serializer_in calls object) object (last_set calls object) call else None)
   last_set-push =
-      rw (serializer_of-kept calls call object inside)
-      (last_set_under-push calls call (serializer_of calls object) object within)
+      rw (serializer_in-kept calls call object inside)
+      (last_set_under-push calls call (serializer_in calls object) object within)
 
   -- the set that holds it
   pub held_set-push : held_set (calls ++ call ∷ []) object ≡
       (if isolating calls
-      then kept_set (serializer_of calls object) object (held_set calls object) call else None)
+      then kept_set (serializer_in calls object) object (held_set calls object) call else None)
   held_set-push =
-      rw (serializer_of-kept calls call object inside)
-      (held_set_under-push calls call (serializer_of calls object) object within)
+      rw (serializer_in-kept calls call object inside)
+      (held_set_under-push calls call (serializer_in calls object) object within)
 
 -- a first set, which is none or the second
 abbrev pub IsNoneOr : Option ℕ → Option ℕ → Type 0

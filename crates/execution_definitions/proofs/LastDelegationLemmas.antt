@@ -9,7 +9,7 @@ use Rattle.std.proofs.lemmas.List.Sums.{fold-append}
 use Rattle.std.proofs.lemmas.List.Folds.{list_any-append}
 use Rattle.execution_definitions.specs.declared.serializer.Serializer.{Serializer}
 use Rattle.execution_definitions.specs.Shapes.{Shape, make, make_fixed, begin, delegate, write, get, end, total, is_begin, is_end}
-use Rattle.execution_definitions.specs.Sets.{serializer_of, set_under}
+use Rattle.execution_definitions.specs.Sets.{serializer_in, set_under}
 use Rattle.execution_definitions.specs.Epochs.{since_step, since, isolating, this_epoch}
 use Rattle.execution_definitions.specs.Held.{frees, later_set, last_set_among, last_set, held_set}
 use Rattle.execution_definitions.specs.Laws.{delegates_to, IsOpenEpoch, IsLastDelegation, WasDelegatedTo, HeldFromItsLastDelegation}
@@ -271,7 +271,7 @@ this_epoch-closed calls closed = rw closed refl
 
 module _ (calls : List Shape) (object set : ℕ) where
   abbrev s : Option Serializer
-  s = serializer_of calls object
+  s = serializer_in calls object
 
   to_last : (epoch : List Shape) → IsOpenEpoch calls epoch → (found : IsLastTo s object epoch set) →
       WasDelegatedTo calls object set found.after

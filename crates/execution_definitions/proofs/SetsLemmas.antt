@@ -6,7 +6,7 @@ use Rattle.std.proofs.lemmas.List.{take-append-le}
 use Rattle.std.proofs.lemmas.List.Elements.{filter-append}
 use Rattle.std.proofs.lemmas.List.Sums.{length-filter}
 use Rattle.execution_definitions.specs.Shapes.{Shape, make, make_fixed, begin, delegate, write, get, end, total, makes_object, makes_by_sequence}
-use Rattle.execution_definitions.specs.Sets.{makers, object_count, serializer_made, serializer_of}
+use Rattle.execution_definitions.specs.Sets.{makers, object_count, serializer_made, serializer_in}
 use Rattle.execution_definitions.proofs.ListLemmas.{slice_get-front, slice_get-append_seam}
 use Rattle.execution_definitions.proofs.EpochsLemmas.{count_by-push}
 
@@ -83,10 +83,10 @@ count_by-makers : (calls : List Shape) →
 count_by-makers calls = fold-makers calls 0
 
 -- an object keeps its serializer
-pub serializer_of-kept : (calls : List Shape) (call : Shape) (object : ℕ) →
+pub serializer_in-kept : (calls : List Shape) (call : Shape) (object : ℕ) →
     object < object_count calls →
-    serializer_of (calls ++ call ∷ []) object ≡ serializer_of calls object
-serializer_of-kept calls call object known =
+    serializer_in (calls ++ call ∷ []) object ≡ serializer_in calls object
+serializer_in-kept calls call object known =
     let within : object ≤ length (makers calls) = omega arith in
     rw (
       makers-push calls call,
@@ -95,10 +95,10 @@ serializer_of-kept calls call object known =
     ) refl
 
 -- the serializer of the object that a call makes
-pub serializer_of-made : (calls : List Shape) (call : Shape) → makes_object call ≡ true →
-    serializer_of (calls ++ call ∷ []) (object_count calls)
+pub serializer_in-made : (calls : List Shape) (call : Shape) → makes_object call ≡ true →
+    serializer_in (calls ++ call ∷ []) (object_count calls)
     ≡ serializer_made (Some call) (count_by makes_by_sequence calls)
-serializer_of-made calls call made =
+serializer_in-made calls call made =
     rw (
       makers-made calls call made,
       slice_get-append_seam (makers calls) call [],

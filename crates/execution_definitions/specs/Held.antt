@@ -6,12 +6,12 @@ use Rattle.std.specs.Prelude.{ℕ, Bool, false, ◌&&◌, not, ◌==◌, if◌th
 use Rattle.std.specs.List.{list_any}
 use Rattle.execution_definitions.specs.declared.serializer.Serializer.{Serializer}
 use Rattle.execution_definitions.specs.Shapes.{Shape, delegate, write, get, reads}
-use Rattle.execution_definitions.specs.Sets.{serializer_of, set_under}
+use Rattle.execution_definitions.specs.Sets.{serializer_in, set_under}
 use Rattle.execution_definitions.specs.Epochs.{since, this_epoch}
 
 -- the object is read-only: it was made without a serializer
 abbrev pub is_fixed : List Shape → ℕ → Bool
-is_fixed calls object = is_none (serializer_of calls object)
+is_fixed calls object = is_none (serializer_in calls object)
 
 -- a write or a get of the object
 abbrev pub frees : ℕ → Shape → Bool
@@ -31,13 +31,13 @@ last_set_among serializer object among = fold (later_set serializer object) None
 
 -- the set of the object's last delegation in this epoch
 abbrev pub last_set : List Shape → ℕ → Option ℕ
-last_set calls object = last_set_among (serializer_of calls object) object (this_epoch calls)
+last_set calls object = last_set_among (serializer_in calls object) object (this_epoch calls)
 
 -- the set that the object is held to: that of its last delegation in this epoch, where no write or
 -- get of it stands after that
 abbrev pub held_set : List Shape → ℕ → Option ℕ
 held_set calls object =
-    last_set_among (serializer_of calls object) object (since (frees object) (this_epoch calls))
+    last_set_among (serializer_in calls object) object (since (frees object) (this_epoch calls))
 
 -- the object is writable, and some delegation of this epoch reads it
 abbrev pub is_read_shared : List Shape → ℕ → Bool

@@ -41,8 +41,8 @@ serializer_made (Some (make by)) sequence_objects = Some (serializer_by by seque
 serializer_made _ sequence_objects = None
 
 -- an object's serializer. None for a read-only object and for a number that no object has
-abbrev pub serializer_of : List Shape → ℕ → Option Serializer
-serializer_of calls object =
+abbrev pub serializer_in : List Shape → ℕ → Option Serializer
+serializer_in calls object =
     serializer_made (slice_get (makers calls) object)
     (count_by makes_by_sequence (take object (makers calls)))
 
@@ -53,4 +53,4 @@ set_under (Some s) object own = set_by s object own
 
 -- the set to which a delegation to an object goes
 abbrev pub set_of : List Shape → ℕ → ℕ → ℕ
-set_of calls object own = set_under (serializer_of calls object) object own
+set_of calls object own = set_under (serializer_in calls object) object own

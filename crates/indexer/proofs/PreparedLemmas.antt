@@ -14,7 +14,7 @@ use Rattle.execution_definitions.specs.declared.refusal.Refusal.TheVariants as r
 use Rattle.execution_definitions.specs.declared.serializer.By.{By}
 use Rattle.execution_definitions.specs.Shapes.{Shape, make, begin, delegate, get, end}
 use Rattle.execution_definitions.specs.Shapes.{total, reads}
-use Rattle.execution_definitions.specs.Sets.{object_count, serializer_of, set_of, set_under}
+use Rattle.execution_definitions.specs.Sets.{object_count, serializer_in, set_of, set_under}
 use Rattle.execution_definitions.specs.Epochs.{isolating, this_epoch, since}
 use Rattle.execution_definitions.specs.Held.{is_fixed, frees, last_set_among, held_set}
 use Rattle.execution_definitions.specs.Refusals.{breaks, first_of, refuse_if, two_sets_if}
@@ -24,7 +24,7 @@ use Rattle.execution_definitions.proofs.SoundnessLemmas.{IsSound-push}
 use Rattle.execution_definitions.proofs.EpochsLemmas.{IsWithin, isolating-within, isolating-begin}
 use Rattle.execution_definitions.proofs.EpochsLemmas.{isolating-end, this_epoch-begin}
 use Rattle.execution_definitions.proofs.SetsLemmas.{object_count-same, object_count-made}
-use Rattle.execution_definitions.proofs.SetsLemmas.{serializer_of-kept, serializer_of-made}
+use Rattle.execution_definitions.proofs.SetsLemmas.{serializer_in-kept, serializer_in-made}
 use Rattle.execution_definitions.proofs.HeldLemmas.{kept_set, held_set-push, reads-push}
 
 -- after these calls no epoch is open, and there are so many objects, all but the first writable
@@ -87,11 +87,11 @@ module _ (objects most : ℕ) (calls : List Shape) (room : most < 2 ^ 60) where
     few = longer calls (make by) most is.few;
     writable = λ o some below. ⊎_elim
         (λ (before : o < objects).
-        ap is_none (serializer_of-kept calls (make by) o (rw is.count before))
+        ap is_none (serializer_in-kept calls (make by) o (rw is.count before))
         ∙ is.writable o some before)
         (λ (last : objects ≤ o).
         let here : o ≡ object_count calls = rw is.count (omega arith) in
-        rw (here, serializer_of-made calls (make by) refl) refl)
+        rw (here, serializer_in-made calls (make by) refl) refl)
         (cases_lt o objects);
   }
 
@@ -101,7 +101,7 @@ module _ (objects most : ℕ) (calls : List Shape) (room : most < 2 ^ 60) where
       → IsInEpoch objects first past first_read past_read (calls ++ begin ∷ []) (most + 1)
   prepared-begun first past first_read past_read inside inside_read is =
       let none_held : (o : ℕ) → held_set (calls ++ begin ∷ []) o ≡ None =
-      λ o. ap (λ epoch. last_set_among (serializer_of (calls ++ begin ∷ []) o) o
+      λ o. ap (λ epoch. last_set_among (serializer_in (calls ++ begin ∷ []) o) o
       (since (frees o) epoch)) (this_epoch-begin calls) in
       record {
         sound = IsSound-push calls begin is.sound (neither _ _
@@ -111,7 +111,7 @@ module _ (objects most : ℕ) (calls : List Shape) (room : most < 2 ^ 60) where
         count = object_count-same calls begin refl ∙ is.count;
         few = longer calls begin most is.few;
         writable = λ o some below.
-            ap is_none (serializer_of-kept calls begin o (rw is.count below))
+            ap is_none (serializer_in-kept calls begin o (rw is.count below))
             ∙ is.writable o some below;
         free = λ o from to. inl (none_held o);
         unread = λ o from to. ap (list_any (reads o)) (this_epoch-begin calls);
@@ -131,7 +131,7 @@ module _ (objects most : ℕ) (calls : List Shape) (room : most < 2 ^ 60) where
     count = object_count-same calls (get o) refl ∙ is.count;
     few = longer calls (get o) most is.few;
     writable = λ k some inside.
-        ap is_none (serializer_of-kept calls (get o) k (rw is.count inside))
+        ap is_none (serializer_in-kept calls (get o) k (rw is.count inside))
         ∙ is.writable k some inside;
   }
 
@@ -233,11 +233,11 @@ module _ (objects first past first_read past_read : ℕ)
     held_now k below =
         held_set-push calls call k within (rw is.count below)
         ∙ ap (λ opened. if opened
-        then (kept_set (serializer_of calls k) k (held_set calls k) call) else None) is.opened
+        then (kept_set (serializer_in calls k) k (held_set calls k) call) else None) is.opened
 
     kept_serializer : (k : ℕ) → k < objects
-        → serializer_of (calls ++ call ∷ []) k ≡ serializer_of calls k
-    kept_serializer k below = serializer_of-kept calls call k (rw is.count below)
+        → serializer_in (calls ++ call ∷ []) k ≡ serializer_in calls k
+    kept_serializer k below = serializer_in-kept calls call k (rw is.count below)
 
     pub in_epoch-delegated :
         IsInEpoch objects first past first_read past_read (calls ++ call ∷ []) (most + 1)
@@ -277,7 +277,7 @@ module _ (objects first past first_read past_read : ℕ)
     count = object_count-same calls end refl ∙ is.count;
     few = longer calls end most is.few;
     writable = λ o positive below.
-        ap is_none (serializer_of-kept calls end o (rw is.count below))
+        ap is_none (serializer_in-kept calls end o (rw is.count below))
         ∙ is.writable o positive below;
   }
 

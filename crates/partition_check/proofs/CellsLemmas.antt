@@ -11,7 +11,7 @@ use Rattle.execution_definitions.specs.declared.serializer.Serializer.{Serialize
 use Rattle.partition_check.specs.declared.cell.Cell.{Cell}
 use Rattle.partition_check.specs.declared.mark.Mark.{Mark}
 use Rattle.partition_check.specs.Cells.{mark_in, IsStamped}
-use Rattle.partition_check.specs.Kept.{IsKept}
+use Rattle.partition_check.specs.Kept.{PartsFit}
 use Rattle.partition_check.specs.MarkedAfter.{cleared_mark, changed_at, fresh_mark, sequence_objects_making}
 
 -- no stamp is that of the epoch to come
@@ -100,12 +100,12 @@ sequence_objects_making-le (Some Sequence) count = omega arith
 sequence_objects_making-le (Some Own) count = omega arith
 
 -- a push keeps what holds, where both limits leave room
-pub IsKept-push : (cells more : List Cell) (calls epochs : ℕ) (is_open : Bool)
+pub PartsFit-push : (cells more : List Cell) (calls epochs : ℕ) (is_open : Bool)
     (sequence_objects : ℕ) (by : Option By) (cell : Cell) →
     more ≡ cells ++ cell ∷ [] → IsStamped epochs cell → length cells < 1048576 → calls < 2 ^ 60 →
-    IsKept cells calls epochs is_open sequence_objects →
-    IsKept more (calls + 1) epochs is_open (sequence_objects_making by sequence_objects)
-IsKept-push cells more calls epochs is_open sequence_objects by cell pushed stamped
+    PartsFit cells calls epochs is_open sequence_objects →
+    PartsFit more (calls + 1) epochs is_open (sequence_objects_making by sequence_objects)
+PartsFit-push cells more calls epochs is_open sequence_objects by cell pushed stamped
     object_room call_room kept =
     let longer : length more ≡ length cells + 1 = rw (pushed, length-append) refl in
     let counted = sequence_objects_making-le by sequence_objects in

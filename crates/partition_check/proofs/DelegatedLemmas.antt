@@ -4,7 +4,7 @@ use Rattle.std.specs.Prelude.{IsNone, option_and_then}
 use Rattle.std.specs.Option.{option_map}
 use Rattle.ss_base.specs.Ids.{set_id}
 use Rattle.execution_definitions.specs.Shapes.{Shape}
-use Rattle.execution_definitions.specs.Sets.{serializer_of}
+use Rattle.execution_definitions.specs.Sets.{serializer_in}
 use Rattle.execution_definitions.specs.Held.{last_set}
 use Rattle.execution_definitions.proofs.RefusalsLemmas.{last_set-past}
 use Rattle.partition_check.specs.declared.mark.Mark.{Mark}
@@ -26,7 +26,7 @@ delegated_to-represents marked calls r object None none =
     record {
       none = (λ is. inl past, λ either. refl);
       set = sym (ap (option_map set_id)
-          (last_set-past calls r.sound object past (serializer_of calls object)));
+          (last_set-past calls r.sound object past (serializer_in calls object)));
     }
 delegated_to-represents marked calls r object (Some mark) some =
     let is = r.each object mark some in

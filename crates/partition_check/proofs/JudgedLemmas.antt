@@ -10,7 +10,7 @@ use Rattle.execution_definitions.specs.declared.refusal.Refusal.{Refusal}
 use Rattle.execution_definitions.specs.declared.refusal.Refusal.TheVariants.{UnknownObject}
 use Rattle.execution_definitions.specs.declared.serializer.By.{By}
 use Rattle.execution_definitions.specs.Shapes.{Shape, delegate, write}
-use Rattle.execution_definitions.specs.Sets.{makers, serializer_of, set_of, set_under}
+use Rattle.execution_definitions.specs.Sets.{makers, serializer_in, set_of, set_under}
 use Rattle.execution_definitions.specs.Epochs.{this_epoch}
 use Rattle.execution_definitions.specs.Held.{last_set, held_set}
 use Rattle.execution_definitions.specs.Refusals.{breaks, unknown_object, first_of, if_reading, private_object}
@@ -28,7 +28,7 @@ held_in-is : (calls : List Shape) (object : ℕ) (mark : Mark) → IsMarkOf call
 held_in-is calls object mark is =
     rw (is.is_held, is.set)
     (by_case (held_set calls object) (last_set calls object)
-    (held_or_last (serializer_of calls object) object (this_epoch calls))) where
+    (held_or_last (serializer_in calls object) object (this_epoch calls))) where
       by_case : (held last : Option ℕ) → IsNoneOr held last →
           (if is_some held then (option_map (λ (s : SetId). s.0) (option_map set_id last)) else None)
           ≡ held

@@ -6,12 +6,12 @@ use Rattle.std.specs.Option.{option_map}
 use Rattle.ss_base.specs.Ids.{set_id}
 use Rattle.execution_definitions.specs.declared.serializer.Serializer.{Serializer}
 use Rattle.execution_definitions.specs.Shapes.{Shape, delegate, is_begin, makes_object, reads}
-use Rattle.execution_definitions.specs.Sets.{object_count, serializer_of}
+use Rattle.execution_definitions.specs.Sets.{object_count, serializer_in}
 use Rattle.execution_definitions.specs.Epochs.{since, isolating, this_epoch}
 use Rattle.execution_definitions.specs.Held.{is_fixed, frees, later_set, last_set_among, last_set, held_set, is_read_shared}
 use Rattle.execution_definitions.specs.Soundness.{IsSound}
 use Rattle.execution_definitions.proofs.EpochsLemmas.{IsWithin, or-false}
-use Rattle.execution_definitions.proofs.SetsLemmas.{serializer_of-kept}
+use Rattle.execution_definitions.proofs.SetsLemmas.{serializer_in-kept}
 use Rattle.execution_definitions.proofs.HeldLemmas.{last_set_under-push, held_set_under-push, last_set-push, held_set-push, reads-push}
 use Rattle.execution_definitions.proofs.RefusalsLemmas.{last_set-past, held_set-past, reads-past}
 use Rattle.partition_check.specs.declared.mark.Mark.{Mark}
@@ -88,11 +88,11 @@ module _ (calls : List Shape) (call : Shape) (object : ℕ) (within : IsWithin c
 
   module _ (mark : Mark) (known : object < object_count calls) (is : IsMarkOf calls object mark)
     where
-      kept_serializer : serializer_of (calls ++ call ∷ []) object ≡ serializer_of calls object
-      kept_serializer = serializer_of-kept calls call object known
+      kept_serializer : serializer_in (calls ++ call ∷ []) object ≡ serializer_in calls object
+      kept_serializer = serializer_in-kept calls call object known
 
       kept_last : mark.set ≡ option_map set_id (last_set (calls ++ call ∷ []) object)
-      kept_last = rw (kept_serializer, last_set-apart (serializer_of calls object)) is.set
+      kept_last = rw (kept_serializer, last_set-apart (serializer_in calls object)) is.set
 
       kept_shared : mark.shared ≡ is_read_shared (calls ++ call ∷ []) object
       kept_shared = rw (kept_serializer, reads-apart) is.shared
@@ -102,7 +102,7 @@ module _ (calls : List Shape) (call : Shape) (object : ℕ) (within : IsWithin c
       IsMarkOf-apart unfreed = record {
         serializer = is.serializer ∙ sym kept_serializer;
         set = kept_last;
-        is_held = rw (kept_serializer, held_set-apart (serializer_of calls object) unfreed) is.is_held;
+        is_held = rw (kept_serializer, held_set-apart (serializer_in calls object) unfreed) is.is_held;
         shared = kept_shared;
       }
 
@@ -112,7 +112,7 @@ module _ (calls : List Shape) (call : Shape) (object : ℕ) (within : IsWithin c
       IsMarkOf-freed freed = record {
         serializer = is.serializer ∙ sym kept_serializer;
         set = kept_last;
-        is_held = rw (held_set-freed (serializer_of (calls ++ call ∷ []) object) freed) refl;
+        is_held = rw (held_set-freed (serializer_in (calls ++ call ∷ []) object) freed) refl;
         shared = kept_shared;
       }
 
@@ -122,7 +122,7 @@ pub IsMarkOf-cleared : (calls : List Shape) (call : Shape) (object : ℕ) (mark 
     this_epoch (calls ++ call ∷ []) ≡ [] → IsMarkOf calls object mark →
     IsMarkOf (calls ++ call ∷ []) object (cleared_mark mark)
 IsMarkOf-cleared calls call object mark known empty is = record {
-  serializer = rw (serializer_of-kept calls call object known) is.serializer;
+  serializer = rw (serializer_in-kept calls call object known) is.serializer;
   set = rw empty refl;
   is_held = rw empty refl;
   shared = rw (empty, and-false (not (is_fixed (calls ++ call ∷ []) object))) refl;
@@ -132,11 +132,11 @@ IsMarkOf-cleared calls call object mark known empty is = record {
 pub IsMarkOf-fresh : (calls : List Shape) (call : Shape) → IsSound calls →
     makes_object call ≡ true → IsWithin call →
     ((object : ℕ) → IsApart call object) → ((object : ℕ) → frees object call ≡ false) →
-    (s : Option Serializer) → s ≡ serializer_of (calls ++ call ∷ []) (object_count calls) →
+    (s : Option Serializer) → s ≡ serializer_in (calls ++ call ∷ []) (object_count calls) →
     IsMarkOf (calls ++ call ∷ []) (object_count calls) (fresh_mark s)
 IsMarkOf-fresh calls call sound made within apart unfreed s is =
     let object = object_count calls in
-    let new = serializer_of (calls ++ call ∷ []) object in
+    let new = serializer_in (calls ++ call ∷ []) object in
     let past : object_count calls ≤ object_count calls = omega arith in
     record {
       serializer = is;
@@ -161,7 +161,7 @@ IsMarkOf-fresh calls call sound made within apart unfreed s is =
 -- shorter
 pub record IsHalfway (calls : List Shape) (call : Shape) (object : ℕ) (mark : Mark) : Type 0 where
   pub known : object < object_count calls
-  pub serializer : mark.serializer ≡ serializer_of calls object
+  pub serializer : mark.serializer ≡ serializer_in calls object
   pub set : mark.set ≡ option_map set_id (last_set (calls ++ call ∷ []) object)
   pub is_held : mark.is_held ≡ is_some (held_set (calls ++ call ∷ []) object)
   pub shared : mark.shared ≡ is_read_shared calls object
@@ -173,13 +173,13 @@ module _ (calls : List Shape) (object own : ℕ) (reading : Option ℕ)
 
   last_set-delegate : (x : ℕ) → x < object_count calls →
       last_set (calls ++ delegate object own reading ∷ []) x
-      ≡ later_set (serializer_of calls x) x (last_set calls x) (delegate object own reading)
+      ≡ later_set (serializer_in calls x) x (last_set calls x) (delegate object own reading)
   last_set-delegate x known =
       rw (last_set-push calls (delegate object own reading) x within known, opened) refl
 
   held_set-delegate : (x : ℕ) → x < object_count calls →
       held_set (calls ++ delegate object own reading ∷ []) x
-      ≡ later_set (serializer_of calls x) x (held_set calls x) (delegate object own reading)
+      ≡ later_set (serializer_in calls x) x (held_set calls x) (delegate object own reading)
   held_set-delegate x known =
       rw (held_set-push calls (delegate object own reading) x within known, opened) refl
 
@@ -214,7 +214,7 @@ module _ (calls : List Shape) (object own : ℕ) (reading : Option ℕ)
       (list_any (reads x) (this_epoch calls) || reads x (delegate object own reading)))
   is_read_shared-delegate x known =
       rw (
-        serializer_of-kept calls (delegate object own reading) x known,
+        serializer_in-kept calls (delegate object own reading) x known,
         reads-push calls (delegate object own reading) x within,
         opened,
       ) refl
@@ -224,7 +224,7 @@ module _ (calls : List Shape) (object own : ℕ) (reading : Option ℕ)
       IsHalfway calls (delegate object own reading) x mark →
       IsMarkOf (calls ++ delegate object own reading ∷ []) x (with_reader mark)
   whole_read x mark read half = record {
-    serializer = rw (serializer_of-kept calls (delegate object own reading) x half.known)
+    serializer = rw (serializer_in-kept calls (delegate object own reading) x half.known)
         half.serializer;
     set = half.set;
     is_held = half.is_held;
@@ -234,7 +234,7 @@ module _ (calls : List Shape) (object own : ℕ) (reading : Option ℕ)
       or-true (list_any (reads x) (this_epoch calls)),
       half.serializer,
     )
-        (writable (serializer_of calls x));
+        (writable (serializer_in calls x));
   } where
     writable : (s : Option Serializer) → is_some s ≡ (not (is_none s) && true)
     writable None = refl
@@ -245,7 +245,7 @@ module _ (calls : List Shape) (object own : ℕ) (reading : Option ℕ)
       IsHalfway calls (delegate object own reading) x mark →
       IsMarkOf (calls ++ delegate object own reading ∷ []) x mark
   whole_unread x mark unread half = record {
-    serializer = rw (serializer_of-kept calls (delegate object own reading) x half.known)
+    serializer = rw (serializer_in-kept calls (delegate object own reading) x half.known)
         half.serializer;
     set = half.set;
     is_held = half.is_held;

@@ -6,13 +6,13 @@ use Rattle.std.proofs.lemmas.Option.{slice_get-map, same_Some}
 use Rattle.execution_definitions.specs.declared.serializer.By.{By}
 use Rattle.execution_definitions.specs.declared.serializer.By.TheVariants.{Object, Sequence, Own}
 use Rattle.execution_definitions.specs.Shapes.{Shape, make, make_fixed, begin, end, is_begin, makes_object, makes_by_sequence}
-use Rattle.execution_definitions.specs.Sets.{object_count, serializer_of, serializer_by}
+use Rattle.execution_definitions.specs.Sets.{object_count, serializer_in, serializer_by}
 use Rattle.execution_definitions.specs.Epochs.{this_epoch}
 use Rattle.execution_definitions.specs.Held.{frees}
 use Rattle.execution_definitions.specs.Refusals.{breaks}
 use Rattle.execution_definitions.proofs.SoundnessLemmas.{IsSound-push}
 use Rattle.execution_definitions.proofs.EpochsLemmas.{IsWithin, count_by-push, isolating-within, isolating-begin, this_epoch-begin, isolating-end, this_epoch-end}
-use Rattle.execution_definitions.proofs.SetsLemmas.{object_count-same, object_count-made, serializer_of-made}
+use Rattle.execution_definitions.proofs.SetsLemmas.{object_count-same, object_count-made, serializer_in-made}
 use Rattle.partition_check.specs.declared.mark.Mark.{Mark}
 use Rattle.partition_check.specs.Marked.{Marked}
 use Rattle.partition_check.specs.MarkedAfter.{cleared_mark, sequence_objects_making, marked_made, marked_after}
@@ -166,9 +166,9 @@ make-represents by marked calls r ok =
       unfreed = λ object. refl;
     } in
     let made : Some (serializer_by by marked.sequence_objects)
-    ≡ serializer_of (calls ++ make by ∷ []) (object_count calls) =
+    ≡ serializer_in (calls ++ make by ∷ []) (object_count calls) =
     ap (λ n. Some (serializer_by by n)) r.sequence_objects
-    ∙ sym (serializer_of-made calls (make by) refl) in
+    ∙ sym (serializer_in-made calls (make by) refl) in
     record {
       sound = IsSound-push calls (make by) r.sound ok;
       call_count = call_count-push marked calls r (make by);
@@ -190,8 +190,8 @@ make_fixed-represents marked calls r ok =
       apart = λ object. record { no_set = λ s earlier. refl; no_read = refl };
       unfreed = λ object. refl;
     } in
-    let made : None ≡ serializer_of (calls ++ make_fixed ∷ []) (object_count calls) =
-    sym (serializer_of-made calls make_fixed refl) in
+    let made : None ≡ serializer_in (calls ++ make_fixed ∷ []) (object_count calls) =
+    sym (serializer_in-made calls make_fixed refl) in
     record {
       sound = IsSound-push calls make_fixed r.sound ok;
       call_count = call_count-push marked calls r make_fixed;

@@ -5,7 +5,7 @@ use Rattle.partition_check.specs.declared.cell.Cell.{Cell}
 use Rattle.partition_check.specs.Cells.{IsStamped}
 
 -- the parts of marks fit each other and their types
-pub record IsKept (cells : List Cell) (calls epochs : ℕ) (is_open : Bool)
+pub record PartsFit (cells : List Cell) (calls epochs : ℕ) (is_open : Bool)
     (sequence_objects : ℕ) : Type 0 where
   -- no cell is stamped with an epoch to come
   pub stamped : All (IsStamped epochs) cells

@@ -7,7 +7,7 @@ use Rattle.std.specs.Option.{option_map}
 use Rattle.ss_base.specs.Ids.{set_id}
 use Rattle.ss_base.specs.declared.ids.SetId.{SetId}
 use Rattle.execution_definitions.specs.Shapes.{Shape, write, get, total, makes_by_sequence}
-use Rattle.execution_definitions.specs.Sets.{object_count, serializer_of}
+use Rattle.execution_definitions.specs.Sets.{object_count, serializer_in}
 use Rattle.execution_definitions.specs.Epochs.{isolating, epoch_count}
 use Rattle.execution_definitions.specs.Held.{last_set, held_set, is_read_shared}
 use Rattle.execution_definitions.specs.Soundness.{IsSound}
@@ -16,7 +16,7 @@ use Rattle.partition_check.specs.Marked.{Marked, mark_at}
 
 -- the mark says of the object what the calls say
 pub record IsMarkOf (calls : List Shape) (object : ℕ) (mark : Mark) : Type 0 where
-  pub serializer : mark.serializer ≡ serializer_of calls object
+  pub serializer : mark.serializer ≡ serializer_in calls object
   pub set : mark.set ≡ option_map set_id (last_set calls object)
   pub is_held : mark.is_held ≡ is_some (held_set calls object)
   pub shared : mark.shared ≡ is_read_shared calls object

@@ -49,7 +49,7 @@ pub fn fresh_cell(by: Option<By>, sequence_objects: u64) -> Cell
 }
 
 // The serializer of an object; none of a read-only one.
-fn serializer_in(by: Option<By>, sequence_objects: u64) -> Option<Serializer>
+fn serializer_for(by: Option<By>, sequence_objects: u64) -> Option<Serializer>
     ensures { result ≡ serializer_making by sequence_objects }
 {
     match by {
@@ -64,7 +64,7 @@ impl Cell {
         ensures { result ≡ mark_in epochs is_open self.now }
     {
         Mark {
-            serializer: serializer_in(self.by, self.set.0),
+            serializer: serializer_for(self.by, self.set.0),
             set: self.last_set(epochs, is_open),
             is_held: self.is_stamped(epochs, is_open) && self.usage.holds(),
             shared: self.is_shared(epochs, is_open),

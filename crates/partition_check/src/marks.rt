@@ -37,7 +37,7 @@ impl Model for Marks {
     ghost use Rattle.std.specs.Prelude.{map};
     ghost use Rattle.partition_check.specs.Marked.{Marked};
     ghost use Rattle.partition_check.specs.Cells.{mark_in};
-    ghost use Rattle.partition_check.specs.Kept.{IsKept};
+    ghost use Rattle.partition_check.specs.Kept.{PartsFit};
 
     ghost Value = { Marked };
 
@@ -49,7 +49,7 @@ impl Model for Marks {
       objects = map (mark_in m.epochs m.is_open) m.cells.items;
     } };
 
-    ghost invariant = { λ m. IsKept m.cells.items m.calls m.epochs m.is_open m.sequence_objects };
+    ghost invariant = { λ m. PartsFit m.cells.items m.calls m.epochs m.is_open m.sequence_objects };
 }
 
 impl Marks {

@@ -7,8 +7,8 @@
 ghost use Rattle.std.specs.Prelude.{◌≡◌, ◌≤◌, Some, List, [], ◌∷◌, ◌++◌, count_by};
 ghost use Rattle.ss_base.specs.declared.limits.TheConstants.{DELEGATES};
 ghost use Rattle.execution_definitions.specs.Shapes.{Shape, make, makes_by_sequence};
-ghost use Rattle.execution_definitions.specs.Sets.{serializer_by, set_by, lane_of_set, object_count};
-ghost use Rattle.execution_definitions.specs.Sets.{serializer_of as serializer_in, set_of as set_in};
+ghost use Rattle.execution_definitions.specs.Sets.{serializer_by, serializer_in, set_by, lane_of_set};
+ghost use Rattle.execution_definitions.specs.Sets.{object_count, set_of as set_in};
 
 pub use execution_definitions::{By, Serializer};
 use ss_base::{Lane, ObjectId, SetId};

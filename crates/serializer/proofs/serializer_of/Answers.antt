@@ -3,14 +3,14 @@ use Rattle.std.proofs.Common.{◌≡◌, ℕ, Some, List, [], ◌∷◌, ◌++�
 use Rattle.execution_definitions.specs.declared.serializer.By.{By}
 use Rattle.execution_definitions.specs.declared.serializer.Serializer.{Serializer}
 use Rattle.execution_definitions.specs.Shapes.{Shape, make, makes_by_sequence}
-use Rattle.execution_definitions.specs.Sets.{serializer_by, serializer_of, object_count}
-use Rattle.execution_definitions.proofs.SetsLemmas.{serializer_of-made}
+use Rattle.execution_definitions.specs.Sets.{serializer_by, serializer_in, object_count}
+use Rattle.execution_definitions.proofs.SetsLemmas.{serializer_in-made}
 use Rattle.serializer.proofs.serializer_of.Goals as goal
 
 made_by : (by : By) (s : Serializer) (n : ℕ) → serializer_by by n ≡ s → (calls : List Shape) →
     count_by makes_by_sequence calls ≡ n →
-    serializer_of (calls ++ make by ∷ []) (object_count calls) ≡ Some s
-made_by by s n is calls count = rw (serializer_of-made calls (make by) refl, count, is) refl
+    serializer_in (calls ++ make by ∷ []) (object_count calls) ≡ Some s
+made_by by s n is calls count = rw (serializer_in-made calls (make by) refl, count, is) refl
 
 pub returns-in-Object-clause-of_calls : goal.returns-in-Object-clause-of_calls
 returns-in-Object-clause-of_calls c = made_by c.args.by _ _ (rw c.in-Object.is refl)

@@ -5,7 +5,7 @@ use Rattle.partition_check.specs.Answers.{making}
 use Rattle.partition_check.specs.MarkedAfter.{serializer_making}
 use Rattle.partition_check.specs.Judged.{judged_make}
 use Rattle.partition_check.specs.Represents.{Represents}
-use Rattle.partition_check.proofs.CellsLemmas.{mark_in-fresh, IsKept-push}
+use Rattle.partition_check.proofs.CellsLemmas.{mark_in-fresh, PartsFit-push}
 use Rattle.partition_check.proofs.JudgedLemmas.{judged_make-represents}
 use Rattle.partition_check.proofs.AcceptedLemmas.{room}
 use Rattle.partition_check.proofs.RepresentsLemmas.{made-represents, marked_after-making}
@@ -19,7 +19,7 @@ invariant_of-self-2 c =
     rw (← counted) (rw c.in_default.is at c.room_for_an_object.ensures) in
     let limits = room (length i.cells.items) i.calls none in
     rw c.sequence_objects_with-self-inside.ensures
-    (IsKept-push _ _ _ _ _ _ c.args.by c.fresh_cell-cell.result c.in-Ok.ensures.items
+    (PartsFit-push _ _ _ _ _ _ c.args.by c.fresh_cell-cell.result c.in-Ok.ensures.items
     (c.fresh_cell-cell.ensures.stamped i.epochs) limits.0 limits.1 c.self.invariant)
 
 pub returns-clause-after : goal.returns-clause-after
