@@ -19,7 +19,7 @@ use Rattle.index_definitions.specs.Postings.{Posting, postings_of, terms_of}
 use Rattle.index_definitions.proofs.TermsLemmas.{rising_terms-rise, HaveSameTerms-rising}
 
 -- no term stands twice
-abbrev AreOnce : List (List ℕ) → Type 0
+abbrev pub AreOnce : List (List ℕ) → Type 0
 AreOnce [] = Unit {0}
 AreOnce (t ∷ ts) = (has_term ts t ≡ false) × AreOnce ts
 
@@ -31,7 +31,7 @@ below-none t (u ∷ ts) below =
     ap (λ b. b || has_term ts t) (sym (is_eq-slice_cmp t u) ∙ ap is_eq below.0)
     ∙ below-none t ts below.1
 
-AreOnce-rising : (ts : List (List ℕ)) → IsStrictlySortedBy (slice_cmp nat_cmp) ts → AreOnce ts
+pub AreOnce-rising : (ts : List (List ℕ)) → IsStrictlySortedBy (slice_cmp nat_cmp) ts → AreOnce ts
 unfolding IsStrictlySortedBy
 AreOnce-rising [] rising = tt
 AreOnce-rising (t ∷ ts) rising = (below-none t ts rising.0, AreOnce-rising ts rising.1)

@@ -4,6 +4,7 @@ pub mod IndexesLemmas
 pub mod ListsLemmas
 pub mod NumberedLemmas
 pub mod PostingsLemmas
+pub mod SaidLemmas
 pub mod TermsLemmas
 pub mod WordsLemmas
 mod WorkedExamples

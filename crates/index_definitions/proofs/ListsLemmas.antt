@@ -24,6 +24,14 @@ pub list_any-map : {A B : Type 0} (p : B → Bool) (f : A → B) (xs : List A)
 list_any-map p f [] = refl
 list_any-map p f (x ∷ xs) = ap (λ b. p (f x) || b) (list_any-map p f xs)
 
+-- a test that doesn't look, of some items
+pub list_any-same : {A : Type 0} (b : Bool) (xs : List A) → 0 < length xs → list_any (λ _. b) xs ≡ b
+list_any-same true [] some = absurd (omega (arith, some))
+list_any-same true (x ∷ xs) some = refl
+list_any-same false [] some = refl
+list_any-same false (x ∷ []) some = refl
+list_any-same false (x ∷ y ∷ xs) some = list_any-same false (y ∷ xs) (omega arith)
+
 -- where one passes, some are left
 pub length-filter-some : {A : Type 0} (p : A → Bool) (xs : List A) → list_any p xs ≡ true
     → 0 < length (filter p xs)

@@ -196,7 +196,7 @@ index_without-same documents stopped others same =
     (filter (λ word. not (same word.1 i)) (words_in e.1))) (enumerate_from 1 documents))
 
 -- terms that are one by one what postings say of them
-term_records : (n : ℕ) (ps : List Posting) (terms : List TermRecord)
+pub term_records : (n : ℕ) (ps : List Posting) (terms : List TermRecord)
     → AllByRecursion (λ term. term ≡ term_record n ps term.text) terms
     → terms ≡ map (term_record n ps) (texts_of terms)
 term_records n ps [] each = refl

@@ -10,7 +10,7 @@ use Rattle.std.specs.Cmp.Lexicographic.{slice_cmp}
 use Rattle.index_definitions.specs.Terms.{longest_of}
 use Rattle.index_definitions.specs.Postings.{Posting, postings}
 use Rattle.index_definitions.specs.PostingLists.{ListsPostings, last_document, pairs_of}
-use Rattle.index_definitions.specs.Index.{TermRecord, IndexRecord, index_without}
+use Rattle.index_definitions.specs.Index.{TermRecord, IndexRecord, index_of, index_without}
 
 -- the posting of a term at a pair of document and position
 abbrev pub posting_of_pair : List ℕ → ℕ × ℕ → Posting
@@ -52,3 +52,8 @@ abbrev pub IndexSaysItsPostings : Type 0
 IndexSaysItsPostings =
     (documents stopped : List (List ℕ))
     → IsPermutation (postings documents stopped) (postings_in (index_without documents stopped))
+
+-- a record with this form is the index of the postings that it says
+abbrev pub IndexIsThatOfItsPostings : Type 0
+IndexIsThatOfItsPostings =
+    (index : IndexRecord) → IsIndex index → index ≡ index_of index.documents (postings_in index)
