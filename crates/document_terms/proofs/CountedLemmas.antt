@@ -1,12 +1,13 @@
 -- The words and the positions of terms by their numbers.
 use Rattle.std.proofs.Common.{◌≡◌, ◌≢◌, ℕ, suc, ◌+◌, ◌-◌, ◌<◌, ◌≤◌, List, [], ◌∷◌, length}
-use Rattle.std.proofs.Common.{Bool, true, false, cond, map, get_or, refl, sym, ap, ap₂, ◌∙◌, arith}
+use Rattle.std.proofs.Common.{true, false, cond, map, get_or, refl, sym, ap, ap₂, ◌∙◌, arith}
 use Rattle.std.proofs.Common.{filter, subst, ⊎_elim}
 use Rattle.std.specs.Prelude.{◌&&◌, ◌==◌, nat_lt, nat_le}
 use Rattle.std.specs.List.{enumerate_from, All}
 use Rattle.std.specs.Str.{bytes_eq}
 use Rattle.std.proofs.lemmas.Bool.{cases_eq, cases_lt, false_from_ne_true}
 use Rattle.std.proofs.lemmas.Grind.{common_steps}
+use Rattle.std.proofs.lemmas.List.{length-map}
 use Rattle.std.proofs.lemmas.List.Folds.{list_any_at}
 use Rattle.std.proofs.lemmas.List.Sums.{sum_by-cons}
 use Rattle.std.proofs.lemmas.Slice.Eq.{bytes_eq-Decides}
@@ -21,9 +22,6 @@ use Rattle.document_terms.proofs.NumberingLemmas.{is_counted}
 use Rattle.document_terms.proofs.GroupsLemmas.{position_of}
 
 -- ---- how many words there are
-
-one : Bool → ℕ
-one b = cond b 1 0
 
 counted_one : (k n : ℕ) → n ≤ k → (nat_lt 0 n && nat_le n k) ≡ nat_lt 0 n
 counted_one k n within = grind (arith, common_steps)
@@ -44,16 +42,12 @@ length_counted k m (n ∷ ns) within =
       | false ↦ omega arith
     ]
 
-length-map : {A B : Type 0} (f : A → B) (xs : List A) → length (map f xs) ≡ length xs
-length-map f [] = refl
-length-map f (x ∷ xs) = ap suc (length-map f xs)
-
 pub length-words_from :
     (ts : List (List ℕ)) (ns : List ℕ) → All (λ n. n ≤ length ts) ns
     → count_through (length ts) ns ≡ length (words_from ts ns)
 length-words_from ts ns within =
     length_counted (length ts) 1 ns within
-    ∙ sym (length-map (word_at ts) (filter is_counted (enumerate_from 1 ns)))
+    ∙ sym (length-map (filter is_counted (enumerate_from 1 ns)) (word_at ts))
 
 -- ---- the positions of a term are those of its number
 
@@ -159,8 +153,8 @@ ArePositions-of ts ns k are within has =
     (sym (list_any-map (bytes_eq t) (λ (w : Word). w.1) (words_from ts ns))
     ∙ sym (are.members t) ∙ itself) in
     record {
-      some = rw (length-map (λ (w : Word). w.0)
-          (filter (λ (w : Word). bytes_eq t w.1) (words_from ts ns))) some;
+      some = rw (length-map (filter (λ (w : Word). bytes_eq t w.1) (words_from ts ns))
+          (λ (w : Word). w.0)) some;
       rise = subst (RisesAbove 0) (positions_of-number ts are.distinct k has ns within)
           (positions_rise (k + 1) 0 1 ns (omega arith));
     }

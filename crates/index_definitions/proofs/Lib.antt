@@ -3,6 +3,7 @@ pub mod GroupingLemmas
 pub mod IndexesLemmas
 pub mod ListsLemmas
 pub mod NumberedLemmas
+pub mod OptionsLemmas
 pub mod PostingsLemmas
 pub mod SaidLemmas
 pub mod TermsLemmas

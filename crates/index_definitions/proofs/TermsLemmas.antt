@@ -23,6 +23,7 @@ use Rattle.std.proofs.lemmas.List.Folds.{list_any_at}
 use Rattle.std.proofs.lemmas.List.Sums.{fold-append}
 use Rattle.std.proofs.lemmas.Slice.Eq.{bytes_eq-Decides}
 use Rattle.index_definitions.specs.Terms.{has_term, HaveSameTerms, longest_of, rising_terms}
+use Rattle.index_definitions.proofs.OptionsLemmas.{is_some-cond}
 use Rattle.index_definitions.proofs.GreatestLemmas.{greatest, greatest-le, le-greatest, greatest-max}
 
 both_true : (a b : Bool) → T a → T b → T (a && b)
@@ -127,16 +128,12 @@ find-key q (e ∷ es) =
     is_some (cond b (Some e.1) (find text_cmp q es)) ≡ (b || has_term (map (λ f. f.0) es) q))
     [ true ↦ refl | false ↦ find-key q es ]
 
-is_some-cond : (b : Bool) → is_some (cond b (Some (tt {0})) None) ≡ b
-is_some-cond true = refl
-is_some-cond false = refl
-
 pub HaveSameTerms-rising : (ts : List (List ℕ)) → HaveSameTerms (rising_terms ts) ts
 HaveSameTerms-rising ts q =
     let made = from_entries {R = text_cmp} (map entry_of ts) in
     sym (ap is_some (get-entries made q) ∙ find-key q (entries made))
     ∙ ap is_some (get-from_entries nat_list_cmp_total (map entry_of ts) q ∙ find-any q ts)
-    ∙ is_some-cond (has_term ts q)
+    ∙ is_some-cond (has_term ts q) tt
 
 -- ---- the longest term
 
