@@ -16,7 +16,7 @@ use Rattle.text_table.proofs.TextMapsLemmas.{text_order_total}
 use Rattle.shard.specs.Shards.{TermLists, ShardParts, empty_shard, list_of, last_in}
 use Rattle.shard.specs.Shards.{comes_last, with_document, with_terms, gathered}
 use Rattle.shard.specs.Shards.{gathered_last, words_of_shard, after_document, shard_after}
-use Rattle.shard.proofs.ShardLemmas.{last_document-push, entry_last, last_in-from}
+use Rattle.shard.proofs.ShardLemmas.{last_document-push, entry_last, last_in-empty}
 use Rattle.shard.proofs.GatherLemmas.{gathered-later}
 
 -- ---- one document more
@@ -75,12 +75,9 @@ put_within k v m n (e ∷ es) before new =
       | Greater ↦ put_within k v (max m theirs) n es before new
     ]
 
-pub empty_last : last_in finite.empty ≡ 0
-empty_last = last_in-from [] [] (λ i j d before within. absurd (omega arith)) refl
-
 entries_within : (n : ℕ) (es : List (List ℕ × PostingList))
     → greatest entry_last 0 es ≤ n → last_in (finite.from_entries es) ≤ n
-entries_within n [] within = omega (arith, empty_last)
+entries_within n [] within = omega (arith, last_in-empty)
 entries_within n (e ∷ es) within =
     let others = finite.from_entries {R = text_order} es in
     let all = greatest-max entry_last 0 (entry_last e) es in
@@ -123,7 +120,7 @@ last-within shard k (w ∷ ws) before =
 pub shard_after-last : (number : ℕ) (ws : List (List Word))
     → last_in (shard_after number ws).lists < length ws + 1
 shard_after-last number ws =
-    let within = last-within (empty_shard number) 1 ws (omega (arith, empty_last)) in
+    let within = last-within (empty_shard number) 1 ws (omega (arith, last_in-empty)) in
     omega (arith, within)
 
 -- so the next document is gathered

@@ -20,6 +20,7 @@ use Rattle.index_definitions.specs.Postings.{postings, postings_of}
 use Rattle.index_definitions.specs.PostingLists.{PostingList}
 use Rattle.index_definitions.specs.Index.{by_document}
 use Rattle.index_definitions.proofs.ListsLemmas.{list_any-map}
+use Rattle.index_definitions.proofs.OptionsLemmas.{is_some-cond}
 use Rattle.index_definitions.proofs.PostingsLemmas.{counted_all, posting_list}
 use Rattle.index_definitions.proofs.PostingsLemmas.{terms-postings, by_document-documents}
 use Rattle.text_table.specs.TextMaps.{text_order}
@@ -28,7 +29,8 @@ use Rattle.shard.specs.Shards.{ShardParts, empty_shard, list_of, last_in}
 use Rattle.shard.specs.Shards.{gathered, words_of_shard}
 use Rattle.shard.proofs.GatherLemmas.{belongs, get-with_terms, gathered-later}
 use Rattle.shard.specs.Shards.{after_document, shard_after}
-use Rattle.shard.proofs.HeldLemmas.{with_terms-last, empty_last}
+use Rattle.shard.proofs.HeldLemmas.{with_terms-last}
+use Rattle.shard.proofs.ShardLemmas.{last_in-empty}
 
 -- a term of the words
 abbrev in_words : List ℕ → List Word → Bool
@@ -129,10 +131,6 @@ and_comm true false = refl
 and_comm false true = refl
 and_comm false false = refl
 
-is_some-cond : {A : Type 0} (b : Bool) (x : A) → is_some (cond b (Some x) None) ≡ b
-is_some-cond true x = refl
-is_some-cond false x = refl
-
 module _ (stopped documents : List (List ℕ)) where
   -- one of the documents has this term
   abbrev pub has_posting : List ℕ → Bool
@@ -146,7 +144,7 @@ module _ (stopped documents : List (List ℕ)) where
       None
   get-shard_after number t =
       let ws = counted_all stopped documents in
-      get-after (empty_shard number) 1 ws t (omega (arith, empty_last))
+      get-after (empty_shard number) 1 ws t (omega (arith, last_in-empty))
       ∙ ap (λ o. cond (belongs number t && in_words t (flat_map (λ w. w) ws))
       (Some (unwrap_or o [] ++ posting_list t 1 ws)) o) (finite.get-empty text_order t)
       ∙ ap₂ (λ b ps. cond b (Some ps) None)

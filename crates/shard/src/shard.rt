@@ -1,15 +1,12 @@
 // A shard: the postings of the terms that belong to it.
-ghost use Rattle.std.specs.Prelude.{◌≡◌, ℕ, ◌<◌, [], ◌∷◌, ◌++◌, length, max, Some, None, IfOk};
-ghost use Rattle.std.specs.Prelude.{OnOk, OnErr, MatchOption};
+ghost use Rattle.std.specs.Prelude.{◌≡◌, ℕ, ◌<◌, [], ◌∷◌, ◌++◌, max, IfOk, OnOk, OnErr};
 ghost use Rattle.std.specs.FinMap as finite;
-ghost use Rattle.std.specs.List.{slice_index_or, slice_set};
+ghost use Rattle.std.specs.Option.{option_copied};
 ghost use Rattle.index_definitions.specs.PostingLists.{ArePositions, last_document};
-ghost use Rattle.text_table.specs.Tags.{tag_of};
-ghost use Rattle.text_table.specs.TextTables.{number_of};
+ghost use Rattle.text_table.specs.TextMaps.{map_of};
 ghost use Rattle.shard.specs.Shards.{empty_shard, last_in, list_of};
 ghost use Rattle.shard.specs.Shards.{with_positions, gathered, gathered_last};
 ghost use Rattle.shard.specs.ShardTerms.{AppendsTermsOfShard};
-ghost use Rattle.shard.specs.kept.ShardTables.{ArePaired, lists_from, last_of};
 
 use document_terms::CountedWords;
 use inverted_index::Term;
@@ -17,99 +14,54 @@ use postings::Postings;
 use ss_base::{OutOfMemory, Text};
 use std::alloc::Global;
 use std::marker::Model;
-use text_table::{Absent, TextTable};
+use text_table::TextMap;
 
 /// A shard. Contracts see its number, and the finite map from its terms to their documents, each
 /// with the term's positions.
 #[derive(Drop)]
 pub struct Shard {
+    alloc: Global,
     number: u8,
-    // the terms, and the postings of each at its number
-    terms: TextTable,
-    lists: Vec<Postings>,
+    // the postings of each term
+    lists: TextMap<Postings>,
     // the last document, or 0
     last: u32,
 }
 
 impl Model for Shard {
-    ghost use Rattle.shard.specs.Shards.{ShardParts, shard_code};
+    ghost use Rattle.std.specs.Prelude.{◌≡◌};
+    ghost use Rattle.text_table.specs.TextMaps.{map_of};
+    ghost use Rattle.shard.specs.Shards.{ShardParts, shard_code, last_in};
 
     ghost Value = { ShardParts };
 
     ghost coded = { shard_code };
 
-    ghost use Rattle.shard.specs.kept.ShardTables.{parts_from, IsShardTable};
+    ghost view = { λ shard. record { number = shard.number; lists = map_of shard.lists } };
 
-    ghost view = { λ shard. parts_from shard.number shard.terms shard.lists.items };
-
-    ghost invariant = { λ shard. IsShardTable shard.terms shard.lists.items shard.last };
-}
-
-// Appends a document to a list of postings.
-fn append_at(
-    lists: &mut Vec<Postings>,
-    number: usize,
-    doc: u32,
-    positions: &[u32],
-) -> Result<(), OutOfMemory>
-    requires within { number < length lists.old.items }
-    requires rises { last_document (slice_index_or lists.old.items number []) < doc }
-    requires positions { ArePositions positions.now }
-    ensures ok { OnOk result (lists.new.items ≡ slice_set lists.old.items number
-        (slice_index_or lists.old.items number [] ++ (doc, positions.now) ∷ [])) }
-    ensures err { OnErr result (lists.new.items ≡ lists.old.items) }
-{
-    let list = &mut lists[number];
-    list.append(doc, positions)
-}
-
-// Adds a term that is not there, with its postings.
-fn push_both(
-    terms: &mut TextTable,
-    lists: &mut Vec<Postings>,
-    absent: Absent,
-    term: &str,
-    list: Postings,
-) -> Result<(), OutOfMemory>
-    requires absent { absent ≡ tag_of term.now }
-    requires new_term { number_of terms.old term.now ≡ None }
-    ensures terms { OnOk result (terms.new ≡ terms.old ++ term.now ∷ []) }
-    ensures lists { OnOk result (lists.new.items ≡ lists.old.items ++ list ∷ []) }
-    ensures same_terms { OnErr result (terms.new ≡ terms.old) }
-    ensures same_lists { OnErr result (lists.new.items ≡ lists.old.items) }
-{
-    lists.push(list)?;
-    if let Err(error) = terms.insert_absent(absent, term) {
-        lists.pop();
-        return Err(error);
-    }
-    Ok(())
+    ghost invariant = { λ shard. shard.last ≡ last_in (map_of shard.lists) };
 }
 
 // Appends a document to a term, which is added if it is new.
 fn append_document(
-    terms: &mut TextTable,
-    lists: &mut Vec<Postings>,
+    alloc: Global,
+    lists: &mut TextMap<Postings>,
     term: &str,
     doc: u32,
     positions: &[u32],
 ) -> Result<(), OutOfMemory>
-    requires pairs { ArePaired terms.old lists.old.items }
-    requires rises { last_document (list_of (lists_from terms.old lists.old.items) term.now)
-        < doc }
+    requires rises { last_document (list_of (map_of lists.old) term.now) < doc }
     requires positions { ArePositions positions.now }
-    ensures pairs { ArePaired terms.new lists.new.items }
-    ensures lists { OnOk result (lists_from terms.new lists.new.items
-        ≡ with_positions (lists_from terms.old lists.old.items) term.now doc positions.now) }
-    ensures last { OnOk result (last_of lists.new.items ≡ max (last_of lists.old.items) doc) }
-    ensures same_last { OnErr result (last_of lists.new.items ≡ last_of lists.old.items) }
+    ensures ok { OnOk result
+        (map_of lists.new ≡ with_positions (map_of lists.old) term.now doc positions.now) }
+    ensures err { OnErr result (map_of lists.new ≡ map_of lists.old) }
 {
-    match terms.look_up(term) {
-        Ok(number) => append_at(lists, number as usize, doc, positions),
+    match lists.look_up(term) {
+        Ok(number) => lists.value_mut(number).append(doc, positions),
         Err(absent) => {
-            let mut list = Postings::new(*lists.allocator());
+            let mut list = Postings::new(alloc);
             list.append(doc, positions)?;
-            push_both(terms, lists, absent, term, list)?;
+            lists.insert_absent(absent, term, list)?;
             Ok(())
         }
     }
@@ -129,9 +81,9 @@ impl Shard {
         ensures { result ≡ empty_shard number }
     {
         Shard {
+            alloc,
             number: number as u8,
-            terms: TextTable::new(alloc),
-            lists: Vec::new(alloc),
+            lists: TextMap::new(alloc),
             last: 0,
         }
     }
@@ -168,20 +120,16 @@ impl Shard {
         ensures lists { OnOk result
             (self.new.lists ≡ with_positions self.old.lists term.now doc positions.now) }
     {
-        append_document(&mut self.terms, &mut self.lists, term, doc, positions)?;
+        append_document(self.alloc, &mut self.lists, term, doc, positions)?;
         self.last = later(self.last, doc);
         Ok(())
     }
 
     /// The postings of a term. It takes no memory.
     pub fn postings(&self, term: &str) -> Option<&Postings>
-        ensures { MatchOption result (finite.get self.now.lists term.now ≡ None)
-            (λ list. finite.get self.now.lists term.now ≡ Some list.now) }
+        ensures { option_copied result ≡ finite.get self.now.lists term.now }
     {
-        let Some(number) = self.terms.number_of(term) else {
-            return None;
-        };
-        Some(&self.lists[number as usize])
+        self.lists.get(term)
     }
 
     /// Appends its terms, each with its postings and a total of 0, in no stated order. After an
@@ -190,12 +138,13 @@ impl Shard {
         ensures { OnOk result
             (AppendsTermsOfShard self.now.lists terms.old.items terms.new.items) }
     {
-        terms.reserve(self.lists.len())?;
-        for number in 0..self.terms.len() {
+        terms.reserve(self.lists.len() as usize)?;
+        for number in 0..self.lists.len() {
+            let (text, postings) = self.lists.entry(number);
             terms.push(Term {
-                text: Text::of(alloc, self.terms.text(number))?,
+                text: Text::of(alloc, text)?,
                 total: 0,
-                postings: self.lists[number as usize].copy()?,
+                postings: postings.copy()?,
             })?;
         }
         Ok(())
@@ -205,14 +154,15 @@ impl Shard {
     pub fn copy(&self, alloc: Global) -> Result<Shard, OutOfMemory>
         ensures { IfOk result (λ copy. copy ≡ self.now) }
     {
-        let mut lists = Vec::with_capacity(alloc, self.lists.len())?;
-        for list in &self.lists {
-            lists.push(list.copy()?)?;
+        let lists = self.lists.values();
+        let mut copies = Vec::with_capacity(alloc, lists.len())?;
+        for list in lists {
+            copies.push(list.copy()?)?;
         }
         Ok(Shard {
+            alloc,
             number: self.number,
-            terms: self.terms.copy()?,
-            lists,
+            lists: TextMap::of(self.lists.texts().copy()?, copies),
             last: self.last,
         })
     }

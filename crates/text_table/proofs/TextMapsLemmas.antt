@@ -15,13 +15,16 @@ use Rattle.std.specs.Str.{bytes_eq}
 use Rattle.std.proofs.lemmas.Map.Text.{is_eq-slice_cmp}
 use Rattle.std.proofs.lemmas.Map.Views.{tells_apart}
 use Rattle.std.proofs.lemmas.Bool.{false_from_ne_true, false≢true}
+use Rattle.std.proofs.lemmas.List.{get_or-map}
+use Rattle.std.proofs.lemmas.Map.Entries.{length-keys_of, length-values_of}
 use Rattle.std.proofs.lemmas.Map.Made.{keys_of-zip}
 use Rattle.std.proofs.lemmas.Option.{none-some, same_Some, slice_get_within, slice_get-get_or}
 use Rattle.std.proofs.lemmas.Slice.Zip.{length-zip, seconds-zip}
 use Rattle.std.proofs.lemmas.Slice.Eq.{bytes_eq-Decides}
 use Rattle.text_table.specs.TextTables.{number_of, AreDistinct}
 use Rattle.text_table.specs.TextMaps.{text_order, map_of, with_value}
-use Rattle.text_table.proofs.TextTablesLemmas.{number_of-cons, number_of-nil, AreDistinct-first, slice_get-number}
+use Rattle.text_table.proofs.TextTablesLemmas.{number_of-cons, number_of-nil, number_of-at}
+use Rattle.text_table.proofs.TextTablesLemmas.{AreDistinct-first, slice_get-number}
 
 -- ---- the order of texts
 
@@ -62,6 +65,22 @@ module _ {V : Type 0} where
       → finite.get (map_of entries) q ≡ value_at entries (number_of (keys_of entries) q)
   get-map_of q entries =
       finite.get-from_entries text_order_total entries q ∙ find-number_of q entries
+
+  -- each entry is found, where no text stands twice
+  pub get-at : (entries : List (List ℕ × V)) (n : ℕ) (d : List ℕ × V)
+      → AreDistinct (keys_of entries) → n < length entries
+      → finite.get (map_of entries) (get_or entries n d).0 ≡ Some (get_or entries n d).1
+  get-at entries n d distinct within =
+      let entry = get_or entries n d in
+      let key = get_or-map (λ (e : List ℕ × V). e.0) entries n d entry.0 within in
+      let value = get_or-map (λ (e : List ℕ × V). e.1) entries n d entry.1 within in
+      let place = number_of-at (keys_of entries) entry.0 n distinct
+      (slice_get-get_or (keys_of entries) n entry.0 (omega (arith, length-keys_of entries))
+      ∙ ap Some key) in
+      get-map_of entry.0 entries
+      ∙ ap (value_at entries) place
+      ∙ slice_get-get_or (values_of entries) n entry.1 (omega (arith, length-values_of entries))
+      ∙ ap Some value
 
   -- ---- one text more
 
@@ -128,6 +147,15 @@ module _ {V : Type 0} where
       ∙ ap (cond (eq_by_cmp text_order q t) (Some v))
       (finite.get-from_entries text_order_total entries q)))
 
+  -- the value that stands there already changes nothing
+  pub with_value-same : (entries : List (List ℕ × V)) (n : ℕ) (v : V)
+      → slice_get (values_of entries) n ≡ Some v → with_value entries n v ≡ entries
+  with_value-same [] n v at = refl
+  with_value-same (entry ∷ rest) zero v at =
+      ap (λ w. (entry.0, w) ∷ rest) (sym (same_Some entry.1 v at))
+  with_value-same (entry ∷ rest) (suc n) v at =
+      ap (λ es. entry ∷ es) (with_value-same rest n v at)
+
   -- ---- how many texts there are
 
   pub len-map_of : (entries : List (List ℕ × V)) → AreDistinct (keys_of entries)
@@ -151,6 +179,10 @@ module _ {V : Type 0} where
   with_value-zip (t ∷ ts) [] n v = refl
   with_value-zip (t ∷ ts) (w ∷ vs) zero v = refl
   with_value-zip (t ∷ ts) (w ∷ vs) (suc n) v = ap (λ es. (t, w) ∷ es) (with_value-zip ts vs n v)
+
+  pub zip-entries : (entries : List (List ℕ × V)) → zip (keys_of entries) (values_of entries) ≡ entries
+  zip-entries [] = refl
+  zip-entries (entry ∷ rest) = ap (λ es. entry ∷ es) (zip-entries rest)
 
   pub zip-push : (ts : List (List ℕ)) (vs : List V) (t : List ℕ) (v : V)
       → length ts ≡ length vs → zip (ts ++ t ∷ []) (vs ++ v ∷ []) ≡ zip ts vs ++ (t, v) ∷ []

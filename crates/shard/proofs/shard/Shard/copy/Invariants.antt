@@ -3,4 +3,4 @@ use Rattle.shard.proofs.shard.Shard.copy.Given as goal
 
 -- the lists so far are copied
 abbrev pub invariant-loop-list : goal.invariant-loop-list
-invariant-loop-list l = l.lists.items ≡ take l.list-index l.list-items
+invariant-loop-list l = l.copies.items ≡ take l.list-index l.lists

@@ -8,10 +8,11 @@ use Rattle.index_definitions.specs.Words.{word_terms}
 use Rattle.index_definitions.specs.PostingLists.{last_document}
 use Rattle.document_terms.specs.Shards.{shard_of}
 use Rattle.shard.specs.Shards.{list_of, with_positions, with_terms, gathered}
-use Rattle.shard.specs.Shards.{words_of_shard, ShardParts, TermLists}
+use Rattle.shard.specs.Shards.{words_of_shard}
 use Rattle.shard.proofs.GatherLemmas.{belongs, with_terms-none, with_terms-push, with_terms-same}
 use Rattle.shard.proofs.GatherLemmas.{list_of-other, list_of-last, not_yet, same_terms}
 use Rattle.shard.proofs.GatherLemmas.{belonging-more, belonging-same}
+use Rattle.shard.proofs.ShardLemmas.{same_parts}
 use Rattle.shard.proofs.shard.Shard.gather_words.Goals as goal
 use Rattle.shard.proofs.shard.Shard.gather_words.Goals.{then-shard-self+in_ok-append}
 use Rattle.shard.proofs.shard.Shard.gather_words.Goals.{else-shard-self}
@@ -21,12 +22,6 @@ equal_test a b same = grind (arith, common_steps)
 
 unequal_test : (a b : ℕ) → a ≢ b → (a == b) ≡ false
 unequal_test a b other = grind (arith, common_steps)
-
-abbrev parts : ℕ → TermLists → ShardParts
-parts number lists = record { number = number; lists = lists }
-
-same_parts : (s t : ShardParts) → s.number ≡ t.number → s.lists ≡ t.lists → s ≡ t
-same_parts s t p q = ap₂ parts p q
 
 pub loop-number-init : goal.loop-number-init
 loop-number-init c = record {

@@ -5,6 +5,4 @@ use Rattle.shard.proofs.shard.Shard.push_terms.Given as goal
 -- the terms so far are appended
 abbrev pub invariant-loop-number : goal.invariant-loop-number
 invariant-loop-number l =
-    l.terms.items
-    ≡ l.fn.terms.items
-    ++ take l.number (uncounted_terms l.self-inside.terms l.self-inside.lists.items)
+    l.terms.items ≡ l.fn.terms.items ++ take l.number (uncounted_terms l.self-inside.lists)

@@ -1,4 +1,4 @@
-use Rattle.std.proofs.Common.{◌<◌, ◌∙◌, arith, length, ap, sym}
+use Rattle.std.proofs.Common.{arith}
 use Rattle.text_table.proofs.TextMapsLemmas.{length_kept, entry_kept}
 use Rattle.text_table.proofs.map.TextMap.entry.Goals as goal
 

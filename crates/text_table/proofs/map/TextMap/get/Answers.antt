@@ -1,4 +1,4 @@
-use Rattle.std.proofs.Common.{◌∙◌, ap, sym, arith, None}
+use Rattle.std.proofs.Common.{◌∙◌, ap, sym, arith}
 use Rattle.std.specs.Option.{option_copied}
 use Rattle.text_table.proofs.TextMapsLemmas.{number_within, get-kept, get-absent}
 use Rattle.text_table.proofs.map.TextMap.get.Goals as goal

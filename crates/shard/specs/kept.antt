@@ -1,2 +1,0 @@
--- What a shard keeps: a list of terms, and beside it their posting lists.
-pub mod ShardTables
