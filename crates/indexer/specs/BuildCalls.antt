@@ -8,6 +8,7 @@ use Rattle.std.specs.Prelude.{◌≡◌, ℕ, ◌+◌, ◌≤◌, Some, List, []
 use Rattle.std.specs.List.{flat_map, range_with_len}
 use Rattle.ss_base.specs.declared.ids.ObjectId.{ObjectId}
 use Rattle.ss_base.specs.Ids.{object_id}
+use Rattle.ss_base.specs.declared.limits.TheConstants as limits
 use Rattle.execution_definitions.specs.declared.call.Call.{Call}
 use Rattle.execution_definitions.specs.declared.call.Call.TheVariants.{Make, MakeFixed, Begin, Delegate, Get, End, Total}
 use Rattle.execution_definitions.specs.declared.serializer.By.TheVariants.{Object, Sequence}
@@ -101,7 +102,7 @@ left_by stopped words_lists = record {
 -- no call of them is refused
 abbrev pub BuildIsSound : Type 0
 BuildIsSound =
-    (documents stopped : List (List ℕ)) → length documents ≤ 65536
+    (documents stopped : List (List ℕ)) → length documents ≤ limits.NAMES
     → IsSound (shapes_of item_meaning (build_calls documents stopped))
 
 -- and this is what they leave, one after the other

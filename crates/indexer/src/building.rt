@@ -5,6 +5,7 @@ ghost use Rattle.execution_definitions.specs.declared.call.Call.TheVariants as c
 ghost use Rattle.index_definitions.specs.Index.{index_without};
 ghost use Rattle.delegation.specs.Runtimes.{IsAfter};
 ghost use Rattle.delegation.specs.declared.call.Fault.TheVariants.{Refused};
+ghost use Rattle.ss_base.specs.declared.limits.TheConstants as limits;
 ghost use Rattle.shard.specs.Shards.{ShardParts};
 ghost use Rattle.shard.specs.ShardTerms.{AppendsTermsOfShard};
 ghost use Rattle.indexer.specs.Items.{item_meaning};
@@ -54,7 +55,7 @@ fn make_items<D: Delegation<Item>>(
 ) -> Result<(), OutOfMemory>
     requires calls { MayMake (D.seen d.old)
         (make_calls (map (λ document. document.items) docs.items) stop) }
-    requires within { AllByRecursion (λ document. vec_len document ≤ 8388608) docs.items }
+    requires within { AllByRecursion (λ document. vec_len document ≤ limits.DOCUMENT_BYTES) docs.items }
     ensures { OnOk result (HasMade (D.seen d.old) (D.seen d.new)
         (make_calls (map (λ document. document.items) docs.items) stop)) }
 {
@@ -74,7 +75,7 @@ fn split_documents<D: Delegation<Item>, R: Threads + Wait + Copy + Send + Sync +
     d: &mut D,
     count: u32,
 ) -> Result<(), OutOfMemory>
-    requires few { count ≤ 65536 }
+    requires few { count ≤ limits.NAMES }
     requires calls { MayMake (D.seen d.old) (split_calls count) }
     ensures { OnOk result (HasMade (D.seen d.old) (D.seen d.new) (split_calls count)) }
 {
@@ -92,7 +93,7 @@ fn gather_document<D: Delegation<Item>, R: Threads + Wait + Copy + Send + Sync +
     count: u32,
     place: u32,
 ) -> Result<(), OutOfMemory>
-    requires few { count ≤ 65536 }
+    requires few { count ≤ limits.NAMES }
     requires place { place < count }
     requires calls { MayMake (D.seen d.old) (gather_document_calls count place) }
     ensures { OnOk result
@@ -113,7 +114,7 @@ fn gather_documents<D: Delegation<Item>, R: Threads + Wait + Copy + Send + Sync 
     d: &mut D,
     count: u32,
 ) -> Result<(), OutOfMemory>
-    requires few { count ≤ 65536 }
+    requires few { count ≤ limits.NAMES }
     requires calls { MayMake (D.seen d.old) (gather_calls count) }
     ensures { OnOk result (HasMade (D.seen d.old) (D.seen d.new) (gather_calls count)) }
 {
@@ -142,7 +143,7 @@ fn collect_terms<D: Delegation<Item>, R: Threads + Wait + Copy + Send + Sync + '
     d: &mut D,
     count: u32,
 ) -> Result<Vec<Term>, OutOfMemory>
-    requires few { count ≤ 65536 }
+    requires few { count ≤ limits.NAMES }
     requires calls { MayMake (D.seen d.old) (get_calls count) }
     ensures terms { (parts : ℕ → ShardParts) → HasShards (D.seen d.old).state count parts →
         IfOk result (λ terms. CollectsTerms parts 16 terms.items) }
@@ -166,8 +167,8 @@ pub fn build<D: Delegation<Item>, R: Threads + Wait + Copy + Send + Sync + 'stat
     stop: StopSet,
 ) -> Result<Index, OutOfMemory>
     requires new { IsAfter item_meaning (D.seen d.old) [] }
-    requires few { length docs.items ≤ 65536 }
-    requires within { AllByRecursion (λ document. vec_len document ≤ 8388608) docs.items }
+    requires few { length docs.items ≤ limits.NAMES }
+    requires within { AllByRecursion (λ document. vec_len document ≤ limits.DOCUMENT_BYTES) docs.items }
     ensures index { IfOk result (λ made.
         made ≡ index_without (map (λ document. document.items) docs.items) stop) }
     // The index is what these calls came to, and the runtime took no others.

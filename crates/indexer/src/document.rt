@@ -1,5 +1,6 @@
 // A document: its bytes, or the counted words that it was split into.
 ghost use Rattle.std.specs.Prelude.{◌≡◌, ◌≤◌, length, IfOk, OnOk, MatchOption};
+ghost use Rattle.ss_base.specs.declared.limits.TheConstants as limits;
 ghost use Rattle.indexer.specs.Documents.{whole, split, IsWhole, split_content};
 ghost use Rattle.indexer.specs.Totals.{totals_join, split_totals};
 
@@ -39,7 +40,7 @@ impl Model for Document {
 impl Document {
     /// A document of at most 8 MiB that isn't split yet, which takes no memory.
     pub fn new(bytes: Vec<u8>) -> Document
-        requires { length bytes.items ≤ 8388608 }
+        requires { length bytes.items ≤ limits.DOCUMENT_BYTES }
         ensures { result ≡ whole bytes.items }
     {
         Document {
