@@ -5,19 +5,18 @@ use Rattle.std.proofs.Common.{length-append}
 use Rattle.std.specs.List.{All, AllByRecursion, flat_map, range_with_len}
 use Rattle.std.proofs.lemmas.List.{length-map, map-append}
 use Rattle.std.proofs.lemmas.List.Concat.{length-flat_map}
-use Rattle.std.proofs.lemmas.List.FromFn.{length-map-range_with_len}
+use Rattle.std.proofs.lemmas.List.FromFn.{length-range_with_len, length-map-range_with_len}
 use Rattle.std.proofs.lemmas.List.Sums.{sum_by-le}
 use Rattle.execution_definitions.specs.declared.serializer.By.TheVariants.{Object, Sequence}
 use Rattle.execution_definitions.specs.Shapes.{Shape, make_fixed, begin, end}
-use Rattle.execution_definitions.specs.Meanings.{shape_of}
 use Rattle.execution_definitions.specs.Soundness.{IsSound}
 use Rattle.execution_definitions.specs.declared.call.Call.TheVariants as call
 use Rattle.execution_definitions.proofs.SoundnessLemmas.{IsSound-push}
-use Rattle.indexer.specs.Items.{own_set}
 use Rattle.indexer.specs.BuildCalls.{ItemCall, shard_numbers, make_document, make_shard}
 use Rattle.indexer.specs.BuildCalls.{make_calls, split_call, split_calls, gather_call}
 use Rattle.indexer.specs.BuildCalls.{gather_document_calls, gather_calls, get_call, get_calls}
 use Rattle.indexer.specs.BuildCalls.{BuildIsSound}
+use Rattle.indexer.proofs.PartsLemmas.{shape}
 use Rattle.indexer.proofs.RangeLemmas.{length-shard_numbers}
 use Rattle.indexer.proofs.PreparedLemmas.{IsPrepared, IsApart, prepared-made, prepared-looked}
 use Rattle.indexer.proofs.PreparedLemmas.{prepared-total, prepared-epoch, each-kept}
@@ -57,9 +56,6 @@ all-numbers P each = all-range P 0 16 (λ k from to. each k (omega arith))
 
 -- ---- the calls as shapes
 
-abbrev shape : ItemCall → Shape
-shape = shape_of own_set
-
 abbrev shapes : List ItemCall → List Shape
 shapes calls = map shape calls
 
@@ -76,10 +72,6 @@ shapes-parts a b c d e =
 shapes-epoch : (more : List ItemCall)
     → shapes (call.Begin ∷ more ++ call.End ∷ []) ≡ begin ∷ shapes more ++ end ∷ []
 shapes-epoch more = ap (λ rest. begin ∷ rest) (map-append shape more (call.End ∷ []))
-
-length-range : (a n : ℕ) → length (range_with_len a n) ≡ n
-length-range a n =
-    sym (length-map (range_with_len a n) (λ k. k)) ∙ length-map-range_with_len (λ k. k) a n
 
 -- ---- the parts
 
@@ -170,7 +162,7 @@ module _ (documents stopped : List (List ℕ)) (few : length documents ≤ 65536
         length-map more shape,
         length-flat_map (gather_document_calls n) (range_with_len 0 n),
         sum_by-le (λ place. length (gather_document_calls n place)) 16 (range_with_len 0 n) each,
-        length-range 0 n,
+        length-range_with_len 0 n,
       )
 
   gathers : (calls : List Shape) (most : ℕ) → most ≤ 131091 → IsPrepared (17 + n) calls most

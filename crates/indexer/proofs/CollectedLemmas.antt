@@ -1,6 +1,6 @@
 -- The terms of shards, as they are sorted and counted.
 use Rattle.std.proofs.Common.{◌≡◌, ◌≢◌, ℕ, ◌+◌, ◌<◌, List, [], ◌∷◌, length, true, false, map, refl}
-use Rattle.std.proofs.Common.{sym, ap, ap₂, ◌∙◌, arith}
+use Rattle.std.proofs.Common.{ap, ap₂, ◌∙◌, arith}
 use Rattle.std.specs.declared.cmp.Ordering.TheVariants.{Less, Equal, Greater}
 use Rattle.std.specs.List.Sorted.{IsPermutation, IsSortedBy, IsStrictlySortedBy}
 use Rattle.std.specs.Ordering.{is_lt, is_eq, ordering_reverse}
@@ -10,7 +10,7 @@ use Rattle.std.proofs.lemmas.List.Sorted.{IsPermutation-map, list_any-IsPermutat
 use Rattle.std.proofs.lemmas.Map.Keys.{sorted_from_all_adjacent, IsDistinct-IsPermutation}
 use Rattle.std.proofs.lemmas.Map.Made.{AllPairs-from_IsDistinct, IsDistinct-from_AllPairs}
 use Rattle.std.proofs.lemmas.Map.Views.{tells_apart}
-use Rattle.std.proofs.lemmas.Bool.Decides.{same_from_decides}
+use Rattle.std.proofs.lemmas.Cmp.{nat_list_eq_equiv}
 use Rattle.std.proofs.lemmas.Slice.Eq.{bytes_eq-Decides}
 use Rattle.index_definitions.specs.Terms.{has_term}
 use Rattle.index_definitions.specs.Index.{TermRecord}
@@ -55,17 +55,12 @@ texts_rise rs sorted distinct =
     not_below _ _
     (ap₂ (λ t u. is_lt (text_order u t)) this next ∙ least) differ)
 
-same_way_round : (a b : List ℕ) → bytes_eq a b ≡ bytes_eq b a
-same_way_round a b =
-    same_from_decides (bytes_eq a b) (bytes_eq b a) (bytes_eq-Decides a b)
-    (λ same. sym ((bytes_eq-Decides b a).0 same), λ same. (bytes_eq-Decides b a).1 (sym same))
-
 -- in another order texts are as distinct
 pub AreDistinct-permutation :
     (ts us : List (List ℕ)) → IsPermutation ts us → AreDistinct ts → AreDistinct us
 AreDistinct-permutation ts us moved distinct =
     AllPairs-from_IsDistinct bytes_eq-Decides us
-    (IsDistinct-IsPermutation bytes_eq same_way_round ts us moved
+    (IsDistinct-IsPermutation bytes_eq nat_list_eq_equiv.symm ts us moved
     (IsDistinct-from_AllPairs bytes_eq-Decides ts distinct))
 
 pub texts_of-permutation :

@@ -51,7 +51,8 @@ sound_front front rest sound =
 
 -- ---- what may still be made
 
-abbrev shape : ItemCall → Shape
+-- a call as the partition rule sees it
+abbrev pub shape : ItemCall → Shape
 shape = shape_of own_set
 
 pub may-front : (runtime : ItemView) (first second : List ItemCall)
