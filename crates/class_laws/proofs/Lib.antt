@@ -1,1 +1,1 @@
-pub mod CountsLemmas
+pub mod counts

@@ -1,6 +1,3 @@
-pub mod SentLemmas
-pub mod FollowLemmas
-pub mod ProgramLemmas
-pub mod OperationLemmas
-pub mod FrontLemmas
-pub mod PlainLemmas
+pub mod runs
+pub mod views
+pub mod plains

@@ -1,13 +1,4 @@
-pub mod ListLemmas
-pub mod SoundnessLemmas
-pub mod EpochsLemmas
-pub mod SetsLemmas
-pub mod HeldLemmas
-pub mod RefusalsLemmas
-pub mod RunsLemmas
-pub mod LawsLemmas
-pub mod LastDelegationLemmas
-pub mod WorkedCases
-pub mod SequentialLemmas
-pub mod ProgramsLemmas
-pub mod WorkedPrograms
+pub mod lists
+pub mod shapes
+pub mod worked
+pub mod programs

@@ -11,7 +11,7 @@ use Rattle.std.proofs.lemmas.Simd.{map-map}
 use Rattle.execution_definitions.specs.declared.call.Call.TheVariants as call
 use Rattle.execution_definitions.specs.Sequential.{State, initial_state, state_after}
 use Rattle.execution_definitions.specs.Sequential.{sequential_state}
-use Rattle.execution_definitions.proofs.ListLemmas.{slice_get-append_seam}
+use Rattle.execution_definitions.proofs.lists.ListLemmas.{slice_get-append_seam}
 use Rattle.index_definitions.specs.Words.{Word}
 use Rattle.index_definitions.specs.Postings.{counted_words}
 use Rattle.shard.specs.Shards.{ShardParts, empty_shard, gathered_last, after_document, shard_after}

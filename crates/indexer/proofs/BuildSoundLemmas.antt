@@ -11,7 +11,7 @@ use Rattle.execution_definitions.specs.declared.serializer.By.TheVariants.{Objec
 use Rattle.execution_definitions.specs.Shapes.{Shape, make_fixed, begin, end}
 use Rattle.execution_definitions.specs.Soundness.{IsSound}
 use Rattle.execution_definitions.specs.declared.call.Call.TheVariants as call
-use Rattle.execution_definitions.proofs.SoundnessLemmas.{IsSound-push}
+use Rattle.execution_definitions.proofs.shapes.SoundnessLemmas.{IsSound-push}
 use Rattle.indexer.specs.BuildCalls.{ItemCall, shard_numbers, make_document, make_shard}
 use Rattle.indexer.specs.BuildCalls.{make_calls, split_call, split_calls, gather_call}
 use Rattle.indexer.specs.BuildCalls.{gather_document_calls, gather_calls, get_call, get_calls}

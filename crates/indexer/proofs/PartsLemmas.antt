@@ -12,8 +12,8 @@ use Rattle.execution_definitions.specs.Shapes.{Shape}
 use Rattle.execution_definitions.specs.Meanings.{shape_of}
 use Rattle.execution_definitions.specs.Refusals.{breaks}
 use Rattle.execution_definitions.specs.Soundness.{IsSound}
-use Rattle.execution_definitions.proofs.LawsLemmas.{first_break_is_least}
-use Rattle.execution_definitions.proofs.ListLemmas.{slice_get-front, slice_get-append_seam}
+use Rattle.execution_definitions.proofs.shapes.LawsLemmas.{first_break_is_least}
+use Rattle.execution_definitions.proofs.lists.ListLemmas.{slice_get-front, slice_get-append_seam}
 use Rattle.delegation.specs.declared.call.Fault.{Fault}
 use Rattle.delegation.specs.declared.call.Fault.TheVariants.{Refused}
 use Rattle.delegation.specs.Runtimes.{IsAfter}

@@ -20,12 +20,12 @@ use Rattle.execution_definitions.specs.Held.{is_fixed, frees, last_set_among, he
 use Rattle.execution_definitions.specs.Refusals.{breaks, first_of, refuse_if, two_sets_if}
 use Rattle.execution_definitions.specs.Refusals.{private_if, too_many_calls}
 use Rattle.execution_definitions.specs.Soundness.{IsSound}
-use Rattle.execution_definitions.proofs.SoundnessLemmas.{IsSound-push}
-use Rattle.execution_definitions.proofs.EpochsLemmas.{IsWithin, isolating-within, isolating-begin}
-use Rattle.execution_definitions.proofs.EpochsLemmas.{isolating-end, this_epoch-begin}
-use Rattle.execution_definitions.proofs.SetsLemmas.{object_count-same, object_count-made}
-use Rattle.execution_definitions.proofs.SetsLemmas.{serializer_in-kept, serializer_in-made}
-use Rattle.execution_definitions.proofs.HeldLemmas.{kept_set, held_set-push, reads-push}
+use Rattle.execution_definitions.proofs.shapes.SoundnessLemmas.{IsSound-push}
+use Rattle.execution_definitions.proofs.shapes.EpochsLemmas.{IsWithin, isolating-within, isolating-begin}
+use Rattle.execution_definitions.proofs.shapes.EpochsLemmas.{isolating-end, this_epoch-begin}
+use Rattle.execution_definitions.proofs.shapes.SetsLemmas.{object_count-same, object_count-made}
+use Rattle.execution_definitions.proofs.shapes.SetsLemmas.{serializer_in-kept, serializer_in-made}
+use Rattle.execution_definitions.proofs.shapes.HeldLemmas.{kept_set, held_set-push, reads-push}
 
 -- after these calls no epoch is open, and there are so many objects, all but the first writable
 pub record IsPrepared (objects : ℕ) (calls : List Shape) (most : ℕ) : Type 0 where

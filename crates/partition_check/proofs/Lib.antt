@@ -1,11 +1,3 @@
-pub mod KnownLemmas
-pub mod JudgedLemmas
-pub mod AcceptedLemmas
-pub mod DelegatedLemmas
-pub mod CellsLemmas
-pub mod MarkLemmas
-pub mod ChangedLemmas
-pub mod RepresentsLemmas
-pub mod DelegateLemmas
-pub mod NoteLemmas
-pub mod TheoremLemmas
+pub mod represents
+pub mod marked
+pub mod cells

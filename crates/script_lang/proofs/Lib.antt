@@ -1,8 +1,4 @@
-pub mod GrammarLemmas
-pub mod ListingsLemmas
-pub mod NamesLemmas
-pub mod RunningLemmas
-pub mod ScriptCallsLemmas
-pub mod SpellingLemmas
-pub mod TokensLemmas
-pub mod YieldsLemmas
+pub mod lines
+pub mod listings
+pub mod shown
+pub mod spellings

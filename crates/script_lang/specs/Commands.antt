@@ -2,7 +2,7 @@
 --
 -- The faults are tried in the order of `ScriptKind`, and the first that holds is the line's. `names`
 -- are those of the objects that the lines above make, in order.
-use Rattle.std.specs.Prelude.{ℕ, Bool, true, false, not, if◌then◌else◌, Option, Some, None, find}
+use Rattle.std.specs.Prelude.{ℕ, Bool, false, not, if◌then◌else◌, Option, Some, None, find}
 use Rattle.std.specs.Prelude.{List, [], ◌∷◌, Result, Ok, Err}
 use Rattle.std.specs.List.{filter_map, list_any, slice_index, zip}
 use Rattle.std.specs.Option.{is_none, is_some, option_and_then}
@@ -12,7 +12,7 @@ use Rattle.script_lang.specs.declared.command.Command.{Command}
 use Rattle.script_lang.specs.declared.fault.ScriptKind.{ScriptKind}
 use Rattle.script_lang.specs.declared.fault.ScriptKind.TheVariants as kind
 use Rattle.script_lang.specs.declared.keyword.Keyword.{Keyword}
-use Rattle.script_lang.specs.Grammar.{Slot, Word, NewName, Name, Number, Set, Parts, LineShape}
+use Rattle.script_lang.specs.Grammar.{Slot, NewName, Name, Number, Set, Parts, LineShape}
 use Rattle.script_lang.specs.Grammar.{shape_of}
 use Rattle.script_lang.specs.Keywords.{keyword_of}
 use Rattle.script_lang.specs.Tokens.{is_name, number_value, set_value}

@@ -1,6 +1,5 @@
 -- Which calls does a script stand for?
-use Rattle.std.specs.Prelude.{Bool, true, false, List, [], ◌∷◌, ◌++◌, map, if◌then◌else◌}
-use Rattle.class_laws.specs.declared.numbers.WrapSum.{WrapSum}
+use Rattle.std.specs.Prelude.{Bool, List, [], ◌∷◌, ◌++◌, map, if◌then◌else◌}
 use Rattle.execution_definitions.specs.Epochs.{isolating}
 use Rattle.execution_definitions.specs.declared.call.Call.{Call}
 use Rattle.execution_definitions.specs.declared.call.Call.TheVariants as call

@@ -12,7 +12,7 @@ use Rattle.script_lang.specs.declared.word32.Act.TheVariants as act
 use Rattle.script_lang.specs.declared.command.Command.{Command}
 use Rattle.script_lang.specs.declared.command.Command.TheVariants.{Make, MakeFixed, Begin, End}
 use Rattle.script_lang.specs.declared.command.Command.TheVariants.{Delegate, Write, Get, Total}
-use Rattle.script_lang.specs.Keywords.{keyword_of, serializer_named, is_in}
+use Rattle.script_lang.specs.Keywords.{serializer_named, is_in}
 use Rattle.script_lang.specs.Parsing.Parts.{◌>>=◌, object_of, may_name, number, act_of, deed_of}
 
 -- what a command is, or its fault

@@ -4,7 +4,7 @@ use Rattle.execution_definitions.specs.declared.serializer.By.{By}
 use Rattle.execution_definitions.specs.declared.serializer.Serializer.{Serializer}
 use Rattle.execution_definitions.specs.Shapes.{Shape, make, makes_by_sequence}
 use Rattle.execution_definitions.specs.Sets.{serializer_by, serializer_in, object_count}
-use Rattle.execution_definitions.proofs.SetsLemmas.{serializer_in-made}
+use Rattle.execution_definitions.proofs.shapes.SetsLemmas.{serializer_in-made}
 use Rattle.serializer.proofs.serializer_of.Goals as goal
 
 made_by : (by : By) (s : Serializer) (n : ℕ) → serializer_by by n ≡ s → (calls : List Shape) →

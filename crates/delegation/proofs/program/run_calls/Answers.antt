@@ -1,6 +1,6 @@
 use Rattle.std.proofs.Common.{rules, ◌≡◌, [], ◌∷◌, ◌++◌, append-nil, append_assoc, ◌∙◌, sym, refl}
 use Rattle.std.proofs.lemmas.List.{nil_from_length}
-use Rattle.delegation.proofs.ProgramLemmas.{starts, goes, stops, ends}
+use Rattle.delegation.proofs.views.ProgramLemmas.{starts, goes, stops, ends}
 use Rattle.delegation.proofs.program.run_calls.Goals as goal
 
 pub loop-call-init : goal.loop-call-init

@@ -1,5 +1,5 @@
 use Rattle.std.proofs.Common.{◌≡◌, ◌++◌}
-use Rattle.delegation.proofs.ProgramLemmas.{OnWay}
+use Rattle.delegation.proofs.views.ProgramLemmas.{OnWay}
 use Rattle.delegation.proofs.program.run_calls.Given as goal
 
 -- the calls made so far and those that are left are all calls

@@ -1,4 +1,4 @@
-use Rattle.execution_definitions.proofs.LastDelegationLemmas.{held_from_its_last_delegation}
+use Rattle.execution_definitions.proofs.shapes.LastDelegationLemmas.{held_from_its_last_delegation}
 use Rattle.execution_definitions.proofs.laws.an_object_is_held_from_its_last_delegation.Goals as goal
 
 pub returns : goal.returns

@@ -5,7 +5,7 @@ use Rattle.std.proofs.lemmas.Result.{on_ok_weaker}
 use Rattle.text_table.specs.TextTables.{AreDistinct}
 use Rattle.class_laws.specs.Counts.{counts_join}
 use Rattle.class_laws.specs.CountTables.{counts_of}
-use Rattle.class_laws.proofs.CountsLemmas.{counts_join-first, AreDistinct-drop}
+use Rattle.class_laws.proofs.counts.CountsLemmas.{counts_join-first, AreDistinct-drop}
 use Rattle.indexer.proofs.TotalsLemmas.{size_in, counts_in-terms}
 use Rattle.indexer.proofs.totals.add_counts.Goals as goal
 

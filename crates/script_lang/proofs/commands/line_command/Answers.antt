@@ -1,7 +1,7 @@
 use Rattle.std.proofs.Common.{◌∙◌, ap, map, sym}
 use Rattle.std.proofs.lemmas.List.{nil_from_length}
 use Rattle.script_lang.specs.Commands.{line_command}
-use Rattle.script_lang.proofs.GrammarLemmas.{no_words, unknown_word, known_word}
+use Rattle.script_lang.proofs.lines.GrammarLemmas.{no_words, unknown_word, known_word}
 use Rattle.script_lang.proofs.commands.line_command.Goals as goal
 
 pub returns-in_default : goal.returns-in_default

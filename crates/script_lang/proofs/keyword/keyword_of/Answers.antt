@@ -1,6 +1,6 @@
 use Rattle.std.proofs.Common.{codes, sym, ap, arith, rules}
 use Rattle.script_lang.specs.Keywords.{keyword_of}
-use Rattle.script_lang.proofs.SpellingLemmas.{spelt}
+use Rattle.script_lang.proofs.spellings.SpellingLemmas.{spelt}
 use Rattle.script_lang.proofs.keyword.keyword_of.Goals as goal
 
 pub returns-in-object : goal.returns-in-object

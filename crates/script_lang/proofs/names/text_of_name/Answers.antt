@@ -1,6 +1,6 @@
 use Rattle.std.proofs.Common.{◌∙◌, sym}
 use Rattle.std.specs.Str.{IsUtf8}
-use Rattle.script_lang.proofs.NamesLemmas.{name_is_text, ok_of_text}
+use Rattle.script_lang.proofs.lines.NamesLemmas.{name_is_text, ok_of_text}
 use Rattle.script_lang.proofs.names.text_of_name.Goals as goal
 
 pub unwrap-requires : goal.unwrap-requires

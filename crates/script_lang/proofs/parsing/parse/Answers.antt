@@ -5,10 +5,10 @@ use Rattle.std.proofs.lemmas.Iterator.Splits.{YieldsList-from_slice_split}
 use Rattle.std.proofs.lemmas.List.{drop_all, length_push}
 use Rattle.std.proofs.lemmas.Result.{err_from_is_err_and}
 use Rattle.script_lang.specs.declared.fault.ParseFault.TheVariants.{Text}
-use Rattle.script_lang.specs.Lines.{is_line_end, line_words}
+use Rattle.script_lang.specs.Lines.{is_line_end}
 use Rattle.script_lang.specs.Parsing.Reading.{after_lines}
-use Rattle.script_lang.proofs.ListingsLemmas.{after_parts, next_line, bad_line}
-use Rattle.script_lang.proofs.YieldsLemmas.{yielded_all, yielded_next}
+use Rattle.script_lang.proofs.listings.ListingsLemmas.{after_parts, next_line, bad_line}
+use Rattle.script_lang.proofs.shown.YieldsLemmas.{yielded_all, yielded_next}
 use Rattle.script_lang.proofs.parsing.parse.Goals as goal
 
 pub loop-text-init : goal.loop-text-init

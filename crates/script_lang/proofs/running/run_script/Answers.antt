@@ -1,8 +1,8 @@
 use Rattle.std.proofs.Common.{◌≡◌, take, sym, ap, ◌∙◌, Err}
 use Rattle.std.proofs.lemmas.List.{take_all}
 use Rattle.script_lang.specs.ScriptCalls.{listed_calls, ends_within_epoch}
-use Rattle.script_lang.proofs.RunningLemmas.{open-in, goes-in, stops-in, stops-end}
-use Rattle.script_lang.proofs.RunningLemmas.{says_shown, says_after, ends-open, ends-closed}
+use Rattle.script_lang.proofs.shown.RunningLemmas.{open-in, goes-in, stops-in, stops-end}
+use Rattle.script_lang.proofs.shown.RunningLemmas.{says_shown, says_after, ends-open, ends-closed}
 use Rattle.script_lang.proofs.running.run_script.Goals as goal
 use Rattle.script_lang.proofs.running.run_script.Goals.{then-is_open+in-Ok-run_command}
 use Rattle.script_lang.proofs.running.run_script.Goals.{else-is_open}

@@ -1,6 +1,6 @@
 use Rattle.std.proofs.Common.{◌≡◌, take}
 use Rattle.script_lang.specs.ScriptCalls.{listed_calls, ends_within_epoch}
-use Rattle.script_lang.proofs.RunningLemmas.{OnWay}
+use Rattle.script_lang.proofs.shown.RunningLemmas.{OnWay}
 use Rattle.script_lang.proofs.running.run_script.Given as goal
 
 -- the commands so far are made, and their lines are appended

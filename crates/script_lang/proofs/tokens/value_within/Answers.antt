@@ -1,8 +1,8 @@
 use Rattle.std.proofs.Common.{◌≡◌, get_or, true, sym, ◌∙◌, arith}
 use Rattle.std.specs.Char.{is_ascii_digit}
 use Rattle.std.proofs.lemmas.Int.Digits.{digits_value_more}
-use Rattle.script_lang.proofs.TokensLemmas.{no_digits_at, digits_at, digit_value_is}
-use Rattle.script_lang.proofs.TokensLemmas.{grown, no_value, over_limit}
+use Rattle.script_lang.proofs.spellings.TokensLemmas.{no_digits_at, digits_at, digit_value_is}
+use Rattle.script_lang.proofs.spellings.TokensLemmas.{grown, no_value, over_limit}
 use Rattle.script_lang.proofs.tokens.value_within.Goals as goal
 
 pub returns-then-not-is_ascii_digit : goal.returns-then-not-is_ascii_digit

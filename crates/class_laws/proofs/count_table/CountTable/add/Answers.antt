@@ -4,8 +4,8 @@ use Rattle.std.specs.FinMap as finite
 use Rattle.text_table.specs.TextMaps.{map_of}
 use Rattle.text_table.proofs.TextMapsLemmas.{get-map_of, value_at}
 use Rattle.class_laws.specs.Counts.{counts_after_add}
-use Rattle.class_laws.proofs.CountsLemmas.{counts_after_add-known, counts_after_add-new}
-use Rattle.class_laws.proofs.CountsLemmas.{AreCounts-with_value, AreCounts-push}
+use Rattle.class_laws.proofs.counts.CountsLemmas.{counts_after_add-known, counts_after_add-new}
+use Rattle.class_laws.proofs.counts.CountsLemmas.{AreCounts-with_value, AreCounts-push}
 use Rattle.class_laws.proofs.count_table.CountTable.add.Goals as goal
 
 -- the key was there

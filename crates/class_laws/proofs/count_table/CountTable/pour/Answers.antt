@@ -7,7 +7,7 @@ use Rattle.text_table.specs.TextTables.{AreDistinct}
 use Rattle.text_table.specs.TextMaps.{map_of}
 use Rattle.text_table.proofs.TextTablesLemmas.{AreDistinct-drop}
 use Rattle.class_laws.specs.Counts.{counts_join}
-use Rattle.class_laws.proofs.CountsLemmas.{counts_join-entry, counts_join-empty}
+use Rattle.class_laws.proofs.counts.CountsLemmas.{counts_join-entry, counts_join-empty}
 use Rattle.class_laws.proofs.count_table.CountTable.pour.Goals as goal
 
 pub loop-number-preserved : goal.loop-number-preserved

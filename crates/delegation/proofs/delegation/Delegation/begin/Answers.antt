@@ -1,5 +1,5 @@
 use Rattle.execution_definitions.specs.declared.call.Reply.TheVariants as reply
-use Rattle.delegation.proofs.FollowLemmas.{follows}
+use Rattle.delegation.proofs.views.FollowLemmas.{follows}
 use Rattle.delegation.proofs.delegation.Delegation.begin.Goals as goal
 
 pub returns-clause-follows : goal.returns-clause-follows

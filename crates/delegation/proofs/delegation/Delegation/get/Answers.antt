@@ -1,6 +1,6 @@
 use Rattle.std.proofs.Common.{refl}
 use Rattle.execution_definitions.specs.declared.call.Reply.TheVariants as reply
-use Rattle.delegation.proofs.FollowLemmas.{follows}
+use Rattle.delegation.proofs.views.FollowLemmas.{follows}
 use Rattle.delegation.proofs.delegation.Delegation.get.Goals as goal
 
 pub returns : goal.returns

@@ -1,5 +1,5 @@
 use Rattle.std.proofs.Common.{Some, sym, ◌∙◌}
-use Rattle.delegation.proofs.PlainLemmas.{length-noted}
+use Rattle.delegation.proofs.plains.PlainLemmas.{length-noted}
 use Rattle.delegation.proofs.plain.PlainRuntime.do_call.Goals as goal
 
 pub invariant_of-self-2 : goal.invariant_of-self-2

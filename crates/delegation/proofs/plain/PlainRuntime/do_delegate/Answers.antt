@@ -1,6 +1,6 @@
 use Rattle.std.proofs.Common.{rules, refl, sym, ◌∙◌}
-use Rattle.delegation.proofs.FrontLemmas.{fronts-with_run, done_same}
-use Rattle.delegation.proofs.PlainLemmas.{length-delegated}
+use Rattle.delegation.proofs.runs.FrontLemmas.{fronts-with_run, done_same}
+use Rattle.delegation.proofs.plains.PlainLemmas.{length-delegated}
 use Rattle.delegation.proofs.plain.PlainRuntime.do_delegate.Goals as goal
 
 pub invariant_of-self-in-Ok-log_run : goal.invariant_of-self-in-Ok-log_run

@@ -1,6 +1,6 @@
 use Rattle.std.proofs.Common.{rules, ◌<◌, length, arith}
 use Rattle.std.proofs.lemmas.Option.{slice_get-get_or}
-use Rattle.delegation.proofs.OperationLemmas.{operated-back, operated-front, on_ok}
+use Rattle.delegation.proofs.plains.OperationLemmas.{operated-back, operated-front, on_ok}
 use Rattle.delegation.proofs.plain.steps.operate_among.Goals as goal
 
 pub returns-then-from-at-clause-state : goal.returns-then-from-at-clause-state

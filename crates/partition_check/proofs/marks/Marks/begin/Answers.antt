@@ -2,8 +2,8 @@ use Rattle.std.proofs.Common.{◌≡◌, None, ◌++◌, ◌∷◌, [], sym, sub
 use Rattle.execution_definitions.specs.Shapes.{begin}
 use Rattle.execution_definitions.specs.Refusals.{breaks}
 use Rattle.partition_check.specs.Represents.{Represents}
-use Rattle.partition_check.proofs.RepresentsLemmas.{begin-represents}
-use Rattle.partition_check.proofs.CellsLemmas.{map-begin}
+use Rattle.partition_check.proofs.represents.RepresentsLemmas.{begin-represents}
+use Rattle.partition_check.proofs.cells.CellsLemmas.{map-begin}
 use Rattle.partition_check.proofs.marks.Marks.begin.Goals as goal
 
 pub returns-clause-after : goal.returns-clause-after

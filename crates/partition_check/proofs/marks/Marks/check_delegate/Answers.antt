@@ -1,7 +1,7 @@
 use Rattle.std.proofs.Common.{subst, refl, ◌∙◌}
 use Rattle.std.proofs.lemmas.Result.{IfOk-weaker}
 use Rattle.partition_check.specs.Answers.{Answers}
-use Rattle.partition_check.proofs.JudgedLemmas.{judged_delegate-represents, set_marked-represents}
+use Rattle.partition_check.proofs.represents.JudgedLemmas.{judged_delegate-represents, set_marked-represents}
 use Rattle.partition_check.proofs.marks.Marks.check_delegate.Goals as goal
 
 pub returns-clause-breaks : goal.returns-clause-breaks

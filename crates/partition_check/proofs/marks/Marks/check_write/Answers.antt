@@ -1,7 +1,7 @@
 use Rattle.std.proofs.Common.{subst, refl}
 use Rattle.partition_check.specs.Answers.{Answers}
-use Rattle.partition_check.proofs.JudgedLemmas.{judged_write-represents}
-use Rattle.partition_check.proofs.AcceptedLemmas.{write_known, known_when_ok}
+use Rattle.partition_check.proofs.represents.JudgedLemmas.{judged_write-represents}
+use Rattle.partition_check.proofs.marked.AcceptedLemmas.{write_known, known_when_ok}
 use Rattle.partition_check.proofs.marks.Marks.check_write.Goals as goal
 
 pub returns-clause-breaks : goal.returns-clause-breaks

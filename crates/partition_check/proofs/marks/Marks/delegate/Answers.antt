@@ -2,8 +2,8 @@ use Rattle.std.proofs.Common.{◌++◌, ◌∷◌, [], sym, subst}
 use Rattle.execution_definitions.specs.Shapes.{delegate}
 use Rattle.execution_definitions.specs.Meanings.{number_given}
 use Rattle.partition_check.specs.Represents.{Represents}
-use Rattle.partition_check.proofs.AcceptedLemmas.{delegable}
-use Rattle.partition_check.proofs.DelegateLemmas.{delegate-represents}
+use Rattle.partition_check.proofs.marked.AcceptedLemmas.{delegable}
+use Rattle.partition_check.proofs.represents.DelegateLemmas.{delegate-represents}
 use Rattle.partition_check.proofs.marks.Marks.delegate.Goals as goal
 
 pub mark_delegation-requires-clause-delegable : goal.mark_delegation-requires-clause-delegable

@@ -1,7 +1,7 @@
 use Rattle.std.proofs.Common.{◌≡◌, option_and_then, subst, sym, refl, rules}
 use Rattle.partition_check.specs.Marked.{mark_at}
 use Rattle.partition_check.specs.Represents.{IsDelegatedTo}
-use Rattle.partition_check.proofs.DelegatedLemmas.{delegated_to-represents}
+use Rattle.partition_check.proofs.represents.DelegatedLemmas.{delegated_to-represents}
 use Rattle.partition_check.proofs.marks.Marks.delegated_to.Goals as goal
 
 pub returns-in_err-mark-clause-calls : goal.returns-in_err-mark-clause-calls

@@ -2,8 +2,8 @@ use Rattle.std.proofs.Common.{◌≡◌, None, ◌++◌, ◌∷◌, [], sym, sub
 use Rattle.execution_definitions.specs.Shapes.{end}
 use Rattle.execution_definitions.specs.Refusals.{breaks}
 use Rattle.partition_check.specs.Represents.{Represents}
-use Rattle.partition_check.proofs.RepresentsLemmas.{end-represents}
-use Rattle.partition_check.proofs.CellsLemmas.{map-end}
+use Rattle.partition_check.proofs.represents.RepresentsLemmas.{end-represents}
+use Rattle.partition_check.proofs.cells.CellsLemmas.{map-end}
 use Rattle.partition_check.proofs.marks.Marks.end.Goals as goal
 
 pub returns-clause-after : goal.returns-clause-after

@@ -1,6 +1,6 @@
 use Rattle.std.proofs.Common.{ap, refl}
 use Rattle.partition_check.specs.MarkedAfter.{freed_mark}
-use Rattle.partition_check.proofs.CellsLemmas.{within_cells, map-changed_at}
+use Rattle.partition_check.proofs.cells.CellsLemmas.{within_cells, map-changed_at}
 use Rattle.partition_check.proofs.marks.Marks.free_one.Goals as goal
 
 pub returns : goal.returns

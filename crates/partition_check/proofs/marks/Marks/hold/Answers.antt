@@ -1,6 +1,6 @@
 use Rattle.std.proofs.Common.{◌≡◌, true, ap, refl, ◌∙◌}
 use Rattle.partition_check.specs.MarkedAfter.{with_set}
-use Rattle.partition_check.proofs.CellsLemmas.{within_cells, mark_of_cell, map-changed_at}
+use Rattle.partition_check.proofs.cells.CellsLemmas.{within_cells, mark_of_cell, map-changed_at}
 use Rattle.partition_check.proofs.marks.Marks.hold.Goals as goal
 
 pub hold-requires : goal.hold-requires

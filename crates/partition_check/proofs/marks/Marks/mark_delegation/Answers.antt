@@ -1,8 +1,8 @@
 use Rattle.std.proofs.Common.{◌≡◌, length, ap, arith, ◌∙◌}
 use Rattle.execution_definitions.specs.Meanings.{number_given}
 use Rattle.partition_check.specs.MarkedAfter.{with_set}
-use Rattle.partition_check.proofs.AcceptedLemmas.{HasMark-longer}
-use Rattle.partition_check.proofs.ChangedLemmas.{length-changed_at, IsReadFree-elsewhere}
+use Rattle.partition_check.proofs.marked.AcceptedLemmas.{HasMark-longer}
+use Rattle.partition_check.proofs.marked.ChangedLemmas.{length-changed_at, IsReadFree-elsewhere}
 use Rattle.partition_check.proofs.marks.Marks.mark_delegation.Goals as goal
 
 pub share-requires-clause-known : goal.share-requires-clause-known

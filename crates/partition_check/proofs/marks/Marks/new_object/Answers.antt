@@ -5,10 +5,10 @@ use Rattle.partition_check.specs.Answers.{making}
 use Rattle.partition_check.specs.MarkedAfter.{serializer_making}
 use Rattle.partition_check.specs.Judged.{judged_make}
 use Rattle.partition_check.specs.Represents.{Represents}
-use Rattle.partition_check.proofs.CellsLemmas.{mark_in-fresh, PartsFit-push}
-use Rattle.partition_check.proofs.JudgedLemmas.{judged_make-represents}
-use Rattle.partition_check.proofs.AcceptedLemmas.{room}
-use Rattle.partition_check.proofs.RepresentsLemmas.{made-represents, marked_after-making}
+use Rattle.partition_check.proofs.cells.CellsLemmas.{mark_in-fresh, PartsFit-push}
+use Rattle.partition_check.proofs.represents.JudgedLemmas.{judged_make-represents}
+use Rattle.partition_check.proofs.marked.AcceptedLemmas.{room}
+use Rattle.partition_check.proofs.represents.RepresentsLemmas.{made-represents, marked_after-making}
 use Rattle.partition_check.proofs.marks.Marks.new_object.Goals as goal
 
 pub invariant_of-self-2 : goal.invariant_of-self-2

@@ -2,7 +2,7 @@ use Rattle.std.proofs.Common.{◌+◌, ◌++◌, ◌∷◌, [], sym, subst, ◌�
 use Rattle.partition_check.specs.Marked.{Marked}
 use Rattle.execution_definitions.specs.Meanings.{number_given}
 use Rattle.partition_check.specs.Represents.{Represents}
-use Rattle.partition_check.proofs.NoteLemmas.{noted-represents}
+use Rattle.partition_check.proofs.represents.NoteLemmas.{noted-represents}
 use Rattle.partition_check.proofs.marks.Marks.note_call.Goals as goal
 
 pub returns-clause-represents : goal.returns-clause-represents

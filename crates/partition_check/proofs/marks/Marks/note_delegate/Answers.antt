@@ -2,9 +2,9 @@ use Rattle.std.proofs.Common.{refl, ◌++◌, ◌∷◌, [], sym, subst, ◌∙�
 use Rattle.execution_definitions.specs.Shapes.{delegate}
 use Rattle.execution_definitions.specs.Meanings.{number_given}
 use Rattle.partition_check.specs.Represents.{Represents}
-use Rattle.partition_check.proofs.JudgedLemmas.{judged_delegate-represents}
-use Rattle.partition_check.proofs.AcceptedLemmas.{delegable}
-use Rattle.partition_check.proofs.DelegateLemmas.{delegate-represents}
+use Rattle.partition_check.proofs.represents.JudgedLemmas.{judged_delegate-represents}
+use Rattle.partition_check.proofs.marked.AcceptedLemmas.{delegable}
+use Rattle.partition_check.proofs.represents.DelegateLemmas.{delegate-represents}
 use Rattle.partition_check.proofs.marks.Marks.note_delegate.Goals as goal
 
 pub mark_delegation-requires : goal.mark_delegation-requires

@@ -1,6 +1,6 @@
 use Rattle.std.proofs.Common.{◌∙◌, sym, ap}
 use Rattle.text_table.specs.TextTables.{number_of}
-use Rattle.script_lang.proofs.NamesLemmas.{no_number}
+use Rattle.script_lang.proofs.lines.NamesLemmas.{no_number}
 use Rattle.script_lang.proofs.names.Names.number_of.Goals as goal
 
 pub returns-in_err-name : goal.returns-in_err-name

@@ -1,7 +1,7 @@
 use Rattle.std.proofs.Common.{◌≡◌, ◌∙◌, ◌++◌, ◌∷◌, [], true, ap}
 use Rattle.std.proofs.lemmas.List.Elements.{All-push}
 use Rattle.script_lang.specs.Tokens.{is_name}
-use Rattle.script_lang.proofs.NamesLemmas.{with_name}
+use Rattle.script_lang.proofs.lines.NamesLemmas.{with_name}
 use Rattle.script_lang.proofs.names.Names.push.Goals as goal
 
 pub invariant_of-self : goal.invariant_of-self

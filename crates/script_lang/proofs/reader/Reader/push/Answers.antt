@@ -1,10 +1,9 @@
 use Rattle.std.proofs.Common.{◌≡◌, ◌++◌, ◌∷◌, [], map, sym, ap, ap₂, ◌∙◌, append-nil}
 use Rattle.std.specs.Option.{option_to_list}
 use Rattle.text_table.specs.TextTables.{number_of}
-use Rattle.script_lang.specs.Commands.{line_command, names_made}
 use Rattle.script_lang.specs.Listings.{Listing}
 use Rattle.script_lang.specs.Parsing.Reading.{name_made, listing_with}
-use Rattle.script_lang.proofs.GrammarLemmas.{line_makes}
+use Rattle.script_lang.proofs.lines.GrammarLemmas.{line_makes}
 use Rattle.script_lang.proofs.reader.Reader.push.Goals as goal
 use Rattle.script_lang.proofs.reader.Reader.push.Goals.{in-Some+in_ok-push, in_default}
 

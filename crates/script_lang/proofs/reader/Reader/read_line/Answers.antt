@@ -2,7 +2,7 @@ use Rattle.std.proofs.Common.{map, Ok, sym, ap, ◌∙◌}
 use Rattle.script_lang.specs.Commands.{line_command}
 use Rattle.script_lang.specs.Lines.{line_words}
 use Rattle.script_lang.specs.Parsing.Reading.{after_command}
-use Rattle.script_lang.proofs.ListingsLemmas.{skipped_line, command_line}
+use Rattle.script_lang.proofs.listings.ListingsLemmas.{skipped_line, command_line}
 use Rattle.script_lang.proofs.reader.Reader.read_line.Goals as goal
 
 pub returns-then-is_skipped-clause-ok : goal.returns-then-is_skipped-clause-ok

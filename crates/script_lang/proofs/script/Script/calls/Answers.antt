@@ -2,7 +2,7 @@ use Rattle.std.proofs.Common.{◌≡◌, ◌++◌, ◌∷◌, [], take, sym, ap,
 use Rattle.std.proofs.lemmas.List.{take_all}
 use Rattle.execution_definitions.specs.declared.call.Call.TheVariants as call
 use Rattle.script_lang.specs.ScriptCalls.{calls_of, listed_calls, ends_within_epoch}
-use Rattle.script_lang.proofs.ScriptCallsLemmas.{ended-open, ended-closed}
+use Rattle.script_lang.proofs.listings.ScriptCallsLemmas.{ended-open, ended-closed}
 use Rattle.script_lang.proofs.script.Script.calls.Goals as goal
 use Rattle.script_lang.proofs.script.Script.calls.Goals.{then-is_open+in_ok-push-2, else-is_open}
 

@@ -3,7 +3,7 @@ use Rattle.std.proofs.lemmas.Iterator.{YieldsList-from_take}
 use Rattle.std.proofs.lemmas.Iterator.Consumers.{YieldsList-at, YieldsList-from_filter}
 use Rattle.std.proofs.lemmas.Iterator.Splits.{YieldsList-from_slice_split}
 use Rattle.script_lang.specs.Lines.{is_blank, is_some_word, line_words}
-use Rattle.script_lang.proofs.YieldsLemmas.{yielded_all}
+use Rattle.script_lang.proofs.shown.YieldsLemmas.{yielded_all}
 use Rattle.script_lang.proofs.words.Words.of.Goals as goal
 
 pub returns : goal.returns

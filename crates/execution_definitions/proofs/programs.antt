@@ -1,0 +1,2 @@
+pub mod SequentialLemmas
+pub mod ProgramsLemmas

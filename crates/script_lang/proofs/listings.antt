@@ -1,0 +1,2 @@
+pub mod ListingsLemmas
+pub mod ScriptCallsLemmas
