@@ -8,7 +8,7 @@ use crate::{
 use class_laws::{Class, Reducible, WrapSum, no_reading};
 use delegation::{Call, Plain};
 use execution_definitions::Refusal;
-use ss_base::{ObjectId, OutOfMemory, SetId};
+use ss_base::{ObjectId, OutOfMemory, SetId, limits};
 use std::alloc::Global;
 use std::sync::Wait;
 use std::test::Fail;
@@ -16,7 +16,7 @@ use std::thread::Threads;
 
 // The script of bytes that are few enough.
 fn parsed(alloc: Global, bytes: &[u8]) -> Result<Script, ParseFault> {
-    if bytes.len() > 1_048_576 {
+    if bytes.len() > limits::SCRIPT_BYTES {
         return Err(ParseFault::OutOfMemory);
     }
     parse(alloc, bytes)
