@@ -3,7 +3,7 @@ ghost use Rattle.std.specs.Prelude.{◌≡◌, None, IfOk, OnOk};
 ghost use Rattle.std.specs.Option.{option_copied};
 ghost use Rattle.execution_definitions.specs.Meanings.{Meaning};
 
-use crate::reducible::Reducible;
+use crate::reducible::{Reducible, reducible_laws};
 use ss_base::OutOfMemory;
 use std::alloc::Global;
 
@@ -55,3 +55,17 @@ pub fn no_reading<'a, C>() -> Option<&'a C>
 {
     None
 }
+
+/// Contributions may be joined in any order, as a fact for the proof of a caller. Nothing runs.
+pub fn joins_in_any_order<C: Class>()
+    ensures { (total a b : C.Red) → C.meaning.join (C.meaning.join total a) b
+        ≡ C.meaning.join (C.meaning.join total b) a }
+{
+    joins_as_its_reducible::<C>();
+    reducible_laws::<C::Red>();
+}
+
+// A class joins contributions as its reducible does.
+fn joins_as_its_reducible<C: Class>()
+    ensures { C.meaning.join ≡ C.Red.join_of }
+{}

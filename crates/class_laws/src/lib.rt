@@ -14,7 +14,7 @@ mod numbers;
 mod reducible;
 
 pub use both::Both;
-pub use class::{Class, no_reading};
+pub use class::{Class, joins_in_any_order, no_reading};
 pub use count_map::CountMap;
 pub use local::{LocalClass, LocalReducible, local_reducible_laws};
 pub use numbers::{Max, WrapSum};
