@@ -2,3 +2,4 @@ pub mod lists
 pub mod shapes
 pub mod worked
 pub mod programs
+pub mod machines

@@ -1,2 +1,4 @@
 pub mod SequentialLemmas
 pub mod ProgramsLemmas
+pub mod ObjectsLemmas
+pub mod OperatedLemmas

@@ -1,2 +1,3 @@
 pub mod WorkedCases
 pub mod WorkedPrograms
+pub mod WorkedMerges

@@ -9,3 +9,5 @@ pub mod Meanings
 pub mod Sequential
 pub mod Programs
 pub mod Laws
+pub mod Merges
+pub mod Machines
