@@ -1,0 +1,310 @@
+-- A machine under any schedule, from its first state on.
+use Rattle.std.proofs.Common.{◌≡◌, ℕ, zero, suc, ◌+◌, ◌<◌, ◌≤◌, Bool, true, false, Option, Some, None, List, [], ◌∷◌, ◌++◌, length, map, take, refl, sym, ap, ◌∙◌, subst, arith, add-one}
+use Rattle.std.specs.Prelude.{fold, slice_get, is_some, if◌then◌else◌, ⊤}
+use Rattle.std.specs.List.{list_all, range_with_len}
+use Rattle.std.proofs.lemmas.List.{map-append, length-map}
+use Rattle.std.proofs.lemmas.Option.{slice_get_within}
+use Rattle.ss_base.specs.declared.ids.Event.{Event}
+use Rattle.ss_base.specs.declared.ids.Event.TheVariants as event
+use Rattle.execution_definitions.specs.declared.call.Call.{Call}
+use Rattle.execution_definitions.specs.declared.call.Call.TheVariants.{Make, MakeFixed, Begin, Delegate, Write, Get, End, Total}
+use Rattle.execution_definitions.specs.declared.refusal.Refusal.{Refusal}
+use Rattle.execution_definitions.specs.Held.{last_set}
+use Rattle.execution_definitions.specs.Refusals.{breaks}
+use Rattle.execution_definitions.specs.Soundness.{IsSound, first_refusal}
+use Rattle.execution_definitions.specs.Meanings.{Meaning, shape_of, shapes_of}
+use Rattle.execution_definitions.specs.Sequential.{initial_state, reply_of, sequential_state, sequential_replies}
+use Rattle.execution_definitions.specs.Programs.{sound_front}
+use Rattle.execution_definitions.specs.Machines.{Entry, Core, MachineState, is_empty, front_at, is_idle_for, entries_done, may_take, call_event, initial_machine, judged_event, taken_event, calls_taken, next_call, may_take_some, is_enabled, program_event, event_taken, after_event, after_schedule, IsFinished}
+use Rattle.execution_definitions.proofs.shapes.SoundnessLemmas.{IsSound-push, first_refusal-at, first_refusal-sound}
+use Rattle.execution_definitions.proofs.programs.SequentialLemmas.{shapes_of-push, sequential_replies-push}
+use Rattle.execution_definitions.proofs.programs.ProgramsLemmas.{sound_front-sound, sound_front-at}
+use Rattle.execution_definitions.proofs.programs.OperatedLemmas.{JoinsInAnyOrder}
+use Rattle.execution_definitions.proofs.machines.DrainLemmas.{EachEntry, EachLane, nothing_done}
+use Rattle.schedule_core.specs.Theorem.{IsAtEnd, GivesTheSame, SchedulesGiveTheSame}
+use Rattle.schedule_core.proofs.FollowLemmas.{all_idle, IsHeldIn, Follows, follows-taken, follows-call, reply_same}
+
+-- ---- places of a list
+
+module _ {A : Type 0} where
+  take-next : (xs : List A) (k : ℕ) (x : A) → slice_get xs k ≡ Some x →
+      take (suc k) xs ≡ take k xs ++ x ∷ []
+  take-next [] zero x is = absurd cc
+  take-next [] (suc k) x is = absurd cc
+  take-next (y ∷ ys) zero x is = let same : y ≡ x = cc in ap (λ z. z ∷ []) same
+  take-next (y ∷ ys) (suc k) x is = ap (λ l. y ∷ l) (take-next ys k x is)
+
+  length-front : (xs : List A) (k : ℕ) → k ≤ length xs → length (take k xs) ≡ k
+  length-front xs zero within = refl
+  length-front [] (suc k) within = absurd (omega arith)
+  length-front (y ∷ ys) (suc k) within = ap suc (length-front ys k (omega arith))
+
+  take-whole : (xs : List A) (k : ℕ) → slice_get xs k ≡ None → take k xs ≡ xs
+  take-whole [] zero none = refl
+  take-whole [] (suc k) none = refl
+  take-whole (y ∷ ys) zero none = absurd cc
+  take-whole (y ∷ ys) (suc k) none = ap (λ l. y ∷ l) (take-whole ys k none)
+
+  -- a list around one of its places
+  record IsAround (xs : List A) (k : ℕ) (x : A) : Type 0 where
+    rest : List A
+    is : xs ≡ take k xs ++ x ∷ rest
+
+  around : (xs : List A) (k : ℕ) (x : A) → slice_get xs k ≡ Some x → IsAround xs k x
+  around [] zero x is = absurd cc
+  around [] (suc k) x is = absurd cc
+  around (y ∷ ys) zero x is =
+      let same : y ≡ x = cc in record { rest = ys; is = ap (λ z. z ∷ ys) same }
+  around (y ∷ ys) (suc k) x is =
+      let later = around ys k x is in record { rest = later.rest; is = ap (λ l. y ∷ l) later.is }
+
+length-range : (first count : ℕ) → length (range_with_len first count) ≡ count
+length-range first zero = refl
+length-range first (suc count) = ap suc (length-range (first + 1) count)
+
+-- ---- lanes in which nothing waits
+
+module _ {A : Type 0} where
+  each_empty : (P : ℕ → A → Type 0) (first : ℕ) (numbers : List ℕ) →
+      EachLane P first (map (λ lane. []) numbers)
+  each_empty P first [] = tt
+  each_empty P first (number ∷ numbers) = (tt, each_empty P (suc first) numbers)
+
+  no_fronts : (lanes : List (List A)) → ((k : ℕ) → is_some (front_at lanes k) ≡ false) →
+      list_all is_empty lanes ≡ true
+  no_fronts [] none = refl
+  no_fronts ([] ∷ lanes) none = no_fronts lanes (λ k. none (suc k))
+  no_fronts ((entry ∷ rest) ∷ lanes) none = let clash : true ≡ false = none zero in absurd cc
+
+nothing_waits : {A : Type 0} (lanes : List (List A)) → list_all is_empty lanes ≡ true →
+    EachEntry (EachEntry (λ entry. ⊥)) lanes
+nothing_waits [] empty = tt
+nothing_waits ([] ∷ lanes) empty = (tt, nothing_waits lanes empty)
+nothing_waits ((entry ∷ rest) ∷ lanes) empty = absurd cc
+
+module _ {C O R : Type 0} (m : Meaning C O R) where
+  -- the call at this place is refused so
+  record IsRefused (calls : List (Call C O)) (place : ℕ) (refusal : Refusal) : Type 0 where
+    call : Call C O
+    next : slice_get calls place ≡ Some call
+    why : breaks (shapes_of m (take place calls)) (shape_of m.own call) ≡ Some refusal
+
+  abbrev IsStopped : List (Call C O) → ℕ → Option Refusal → Type 0
+  IsStopped calls place None = ⊤
+  IsStopped calls place (Some refusal) = IsRefused calls place refusal
+
+  -- what holds of a machine of n lanes after every schedule
+  record IsReached (n : ℕ) (calls : List (Call C O)) (machine : MachineState C O R)
+      : Type 0 where
+    within : machine.next ≤ length calls
+    sound : IsSound (shapes_of m (calls_taken m calls machine))
+    replies : machine.replies ≡ sequential_replies m (calls_taken m calls machine)
+    follows : Follows m n (calls_taken m calls machine) machine.core
+    stopped : IsStopped calls machine.next machine.stop
+
+  empty_follows : (n : ℕ) →
+      Follows m n [] (record {
+        state = initial_state m;
+        lanes = map (λ lane. []) (range_with_len 0 n);
+      })
+  empty_follows n = record {
+    count = length-map (range_with_len 0 n) (λ lane. []) ∙ length-range 0 n;
+    held = each_empty (IsHeldIn n []) 0 (range_with_len 0 n);
+    objects = omega arith;
+    drains = drains_empty (range_with_len 0 n);
+  } where
+    drains_empty : (numbers : List ℕ) →
+        fold (entries_done m) (initial_state m) (map (λ lane. []) numbers) ≡ initial_state m
+    drains_empty [] = refl
+    drains_empty (number ∷ numbers) = drains_empty numbers
+
+  reached-first : (n : ℕ) (calls : List (Call C O)) →
+      IsReached n calls (initial_machine m n)
+  reached-first n calls = record {
+    within = omega arith;
+    sound = refl;
+    replies = refl;
+    follows = empty_follows n;
+    stopped = tt;
+  }
+
+  module _ (any_order : JoinsInAnyOrder m) (n : ℕ) (some : 0 < n) (calls : List (Call C O)) where
+    module _ (machine : MachineState C O R) (reached : IsReached n calls machine) where
+      abbrev before : List (Call C O)
+      before = calls_taken m calls machine
+
+      reached-judged : (call : Call C O) → slice_get calls machine.next ≡ Some call →
+          may_take m before machine.core call ≡ true → (cause : Option Refusal) →
+          breaks (shapes_of m before) (shape_of m.own call) ≡ cause →
+          IsReached n calls (judged_event m before machine call cause)
+      reached-judged call at may (Some refusal) why = record {
+        within = reached.within;
+        sound = reached.sound;
+        replies = reached.replies;
+        follows = reached.follows;
+        stopped = record { call = call; next = at; why = why };
+      }
+      reached-judged call at may None accepts =
+          let inside : machine.next < length calls = slice_get_within calls machine.next call at in
+          let more : before ++ call ∷ [] ≡ take (machine.next + 1) calls =
+          sym (ap (λ k. take k calls) (add-one machine.next) ∙ take-next calls machine.next call at) in
+          let count : machine.next ≡ length before =
+          sym (length-front calls machine.next reached.within) in
+          let shapes = shapes_of-push m before call in
+          let sound : IsSound (shapes_of m (before ++ call ∷ [])) =
+          subst IsSound (sym shapes)
+          (IsSound-push (shapes_of m before) (shape_of m.own call) reached.sound accepts) in
+          let replies : machine.replies ++ reply_of m machine.core.state machine.next call ∷ []
+          ≡ sequential_replies m (before ++ call ∷ []) =
+          ap (λ l. l ++ reply_of m machine.core.state machine.next call ∷ []) reached.replies
+          ∙ ap (λ r. sequential_replies m before ++ r ∷ [])
+          (reply_same m n before machine.core reached.follows machine.next call accepts may
+          ∙ ap (λ k. reply_of m (sequential_state m before) k call) count)
+          ∙ sym (sequential_replies-push m before call) in
+          record {
+            within = omega arith;
+            sound = subst (λ l. IsSound (shapes_of m l)) more sound;
+            replies = replies ∙ ap (sequential_replies m) more;
+            follows = subst (λ l. Follows m n l (call_event m before machine.core call)) more
+                (follows-call m any_order n some before machine.core reached.follows call accepts
+                may);
+            stopped = tt;
+          }
+
+      reached-call : (found : Option (Call C O)) → slice_get calls machine.next ≡ found →
+          may_take_some m calls machine found ≡ true →
+          IsReached n calls (program_event m calls machine found)
+      reached-call None at enabled = absurd cc
+      reached-call (Some call) at enabled =
+          reached-judged call at enabled
+          (breaks (shapes_of m before) (shape_of m.own call)) refl
+
+      reached-program : (stop : Option Refusal) →
+          may_take_some m calls machine (next_call m calls machine stop) ≡ true →
+          IsReached n calls (program_event m calls machine (next_call m calls machine stop))
+      reached-program None enabled = reached-call (slice_get calls machine.next) refl enabled
+      reached-program (Some refusal) enabled = absurd cc
+
+      reached-taken : (lane : ℕ) (front : Option (Entry C O)) →
+          front_at machine.core.lanes lane ≡ front →
+          IsReached n calls (taken_event m machine lane front)
+      reached-taken lane None is = reached
+      reached-taken lane (Some entry) is = record {
+        within = reached.within;
+        sound = reached.sound;
+        replies = reached.replies;
+        follows = follows-taken m any_order n before machine.core reached.follows lane (Some entry)
+            is;
+        stopped = reached.stopped;
+      }
+
+      reached-enabled : (e : Event) → is_enabled m calls machine e ≡ true →
+          IsReached n calls (event_taken m calls machine e)
+      reached-enabled event.Program enabled = reached-program machine.stop enabled
+      reached-enabled (event.Delegate lane) enabled =
+          reached-taken lane.0 (front_at machine.core.lanes lane.0) refl
+
+      reached-event : (e : Event) → IsReached n calls (after_event m calls machine e)
+      reached-event e = by_test (is_enabled m calls machine e) refl where
+        by_test : (test : Bool) → is_enabled m calls machine e ≡ test →
+            IsReached n calls (if test then event_taken m calls machine e else machine)
+        by_test true enabled = reached-enabled e enabled
+        by_test false enabled = reached
+
+    reached-schedule : (schedule : List Event) (machine : MachineState C O R) →
+        IsReached n calls machine →
+        IsReached n calls (after_schedule m calls machine schedule)
+    reached-schedule [] machine reached = reached
+    reached-schedule (e ∷ rest) machine reached =
+        reached-schedule rest (after_event m calls machine e) (reached-event machine reached e)
+
+    -- ---- at the end
+
+    may_idle : (core : Core C O R) (last : Option ℕ) → list_all is_empty core.lanes ≡ true →
+        is_idle_for core last ≡ true
+    may_idle core None empty = refl
+    may_idle core (Some set) empty = all_idle core.lanes _ empty
+
+    -- where nothing waits, every call can be taken
+    may_take-empty : (taken : List (Call C O)) (core : Core C O R) (call : Call C O) →
+        list_all is_empty core.lanes ≡ true → may_take m taken core call ≡ true
+    may_take-empty taken core (Make value by) empty = refl
+    may_take-empty taken core (MakeFixed value) empty = refl
+    may_take-empty taken core Begin empty = refl
+    may_take-empty taken core (Delegate object op reading) empty = refl
+    may_take-empty taken core (Write object op) empty =
+        may_idle core (last_set (shapes_of m taken) object.0) empty
+    may_take-empty taken core (Get object) empty =
+        may_idle core (last_set (shapes_of m taken) object.0) empty
+    may_take-empty taken core End empty = empty
+    may_take-empty taken core Total empty = refl
+
+    module _ (machine : MachineState C O R) (reached : IsReached n calls machine)
+        (empty : list_all is_empty machine.core.lanes ≡ true) where
+      abbrev made : List (Call C O)
+      made = calls_taken m calls machine
+
+      end_at : made ≡ sound_front m calls → machine.stop ≡ first_refusal (shapes_of m calls) →
+          IsAtEnd m calls machine
+      end_at front stop = record {
+        state = sym (nothing_done m machine.core.state machine.core.lanes
+            (nothing_waits machine.core.lanes empty))
+            ∙ reached.follows.drains ∙ ap (sequential_state m) front;
+        replies = reached.replies ∙ ap (sequential_replies m) front;
+        stop = stop;
+      }
+
+      end_refused : (refusal : Refusal) → machine.stop ≡ Some refusal →
+          IsRefused calls machine.next refusal → IsAtEnd m calls machine
+      end_refused refusal stop refused =
+          let near = around calls machine.next refused.call refused.next in
+          end_at
+          (sym (ap (sound_front m) near.is
+          ∙ sound_front-at m made refused.call near.rest refusal reached.sound refused.why))
+          (stop ∙ sym (ap (λ l. first_refusal (shapes_of m l)) near.is
+          ∙ ap first_refusal (map-append (shape_of m.own) made (refused.call ∷ near.rest))
+          ∙ first_refusal-at (shapes_of m made) (shape_of m.own refused.call)
+          (shapes_of m near.rest) refusal reached.sound refused.why))
+
+      end_found : (found : Option (Call C O)) → slice_get calls machine.next ≡ found →
+          machine.stop ≡ None → may_take_some m calls machine found ≡ false →
+          IsAtEnd m calls machine
+      end_found None at stop done =
+          let whole = take-whole calls machine.next at in
+          let sound = subst (λ l. IsSound (shapes_of m l)) whole reached.sound in
+          end_at (whole ∙ sym (sound_front-sound m calls sound))
+          (stop ∙ sym (first_refusal-sound (shapes_of m calls) sound))
+      end_found (Some call) at stop done =
+          let may = may_take-empty made machine.core call empty in absurd cc
+
+      end_stopped : (stop : Option Refusal) → machine.stop ≡ stop →
+          IsStopped calls machine.next stop →
+          may_take_some m calls machine (next_call m calls machine stop) ≡ false →
+          IsAtEnd m calls machine
+      end_stopped None stop stopped done =
+          end_found (slice_get calls machine.next) refl stop done
+      end_stopped (Some refusal) stop stopped done = end_refused refusal stop stopped
+
+    reached_ends : (machine : MachineState C O R) → IsReached n calls machine →
+        IsFinished m calls machine → IsAtEnd m calls machine
+    reached_ends machine reached finished =
+        end_stopped machine reached
+        (no_fronts machine.core.lanes (λ k. finished (event.Delegate (record { 0 = k }))))
+        machine.stop refl reached.stopped (finished event.Program)
+
+    reached_gives : (machine : MachineState C O R) → IsReached n calls machine →
+        GivesTheSame m calls machine
+    reached_gives machine reached = record {
+      on_way = record {
+        sound = reached.sound;
+        replies = reached.replies;
+        drains = reached.follows.drains;
+      };
+      at_end = λ finished. reached_ends machine reached finished;
+    }
+
+  -- every schedule gives the same
+  pub schedules_give_the_same : JoinsInAnyOrder m → SchedulesGiveTheSame m
+  schedules_give_the_same any_order n some calls schedule =
+      reached_gives any_order n some calls _ (reached-schedule any_order n some calls schedule
+      (initial_machine m n) (reached-first n calls))

@@ -1,0 +1,38 @@
+-- Does it matter in which order the program context and the delegates get to run?
+--
+-- It doesn't: whatever the schedule, the calls that were taken are answered as without delegates,
+-- what waits drains to what they leave without delegates, and a machine that is at its end has just
+-- that.
+use Rattle.std.specs.Prelude.{◌≡◌, ℕ, ◌<◌, List}
+use Rattle.ss_base.specs.declared.ids.Event.{Event}
+use Rattle.execution_definitions.specs.declared.call.Call.{Call}
+use Rattle.execution_definitions.specs.Soundness.{IsSound, first_refusal}
+use Rattle.execution_definitions.specs.Meanings.{Meaning, shapes_of}
+use Rattle.execution_definitions.specs.Sequential.{sequential_state, sequential_replies}
+use Rattle.execution_definitions.specs.Programs.{sound_front}
+use Rattle.execution_definitions.specs.Machines.{MachineState, drained, calls_taken, initial_machine, after_schedule, IsFinished}
+
+module _ {C O R : Type 0} (m : Meaning C O R) where
+  -- the calls taken so far: none breaks the partition rule, they are answered as without delegates,
+  -- and with all that waits they leave what they leave without delegates
+  pub record IsOnWay (calls : List (Call C O)) (machine : MachineState C O R) : Type 0 where
+    pub sound : IsSound (shapes_of m (calls_taken m calls machine))
+    pub replies : machine.replies ≡ sequential_replies m (calls_taken m calls machine)
+    pub drains : drained m machine.core ≡ sequential_state m (calls_taken m calls machine)
+
+  -- all calls before the first that is refused: their values, total and replies, and that refusal
+  pub record IsAtEnd (calls : List (Call C O)) (machine : MachineState C O R) : Type 0 where
+    pub state : machine.core.state ≡ sequential_state m (sound_front m calls)
+    pub replies : machine.replies ≡ sequential_replies m (sound_front m calls)
+    pub stop : machine.stop ≡ first_refusal (shapes_of m calls)
+
+  -- what holds of a machine that is somewhere in a program
+  pub record GivesTheSame (calls : List (Call C O)) (machine : MachineState C O R) : Type 0 where
+    pub on_way : IsOnWay calls machine
+    pub at_end : IsFinished m calls machine → IsAtEnd calls machine
+
+  -- every schedule, for any number of lanes and any calls
+  abbrev pub SchedulesGiveTheSame : Type 0
+  SchedulesGiveTheSame =
+      (n : ℕ) → 0 < n → (calls : List (Call C O)) (schedule : List Event) →
+      GivesTheSame calls (after_schedule m calls (initial_machine m n) schedule)
