@@ -3,3 +3,4 @@ pub mod BegunLemmas
 pub mod PlaceLemmas
 pub mod MoveLemmas
 pub mod MergesLemmas
+pub mod LogsLemmas

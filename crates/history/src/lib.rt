@@ -2,5 +2,10 @@
 #![tactic(auto)]
 
 mod laws;
+mod logs;
 
 pub use laws::{begun_merges_go_on, legal_merges_leave_the_same};
+pub use logs::{Verdict, check, of_set};
+
+#[cfg(test)]
+mod tests;
