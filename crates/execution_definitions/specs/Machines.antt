@@ -8,6 +8,7 @@
 -- calls before it alone, so that whoever keeps lanes in another form can speak of the same events.
 use Rattle.std.specs.Prelude.{◌≡◌, ℕ, zero, suc, ◌+◌, Bool, true, false, if◌then◌else◌, is_some, Option, Some, None, List, [], ◌∷◌, ◌++◌, length, map, fold, take, slice_get, option_and_then}
 use Rattle.std.specs.List.{list_all, range_with_len}
+use Rattle.std.specs.Option.{option_map}
 use Rattle.ss_base.specs.declared.ids.Event.{Event}
 use Rattle.ss_base.specs.declared.ids.Event.TheVariants as event
 use Rattle.ss_base.specs.declared.ids.Run.{Run}
@@ -77,6 +78,12 @@ module _ {A : Type 0} where
   without_front lane [] = []
   without_front zero (entries ∷ lanes) = behind_front entries ∷ lanes
   without_front (suc lane) (entries ∷ lanes) = entries ∷ without_front lane lanes
+
+  -- the least lane in which something waits
+  abbrev pub least_busy : List (List A) → Option ℕ
+  least_busy [] = None
+  least_busy ([] ∷ lanes) = option_map (λ lane. lane + 1) (least_busy lanes)
+  least_busy ((entry ∷ rest) ∷ lanes) = Some 0
 
   -- the entry at the front of a lane
   abbrev pub front_at : List (List A) → ℕ → Option A
@@ -220,3 +227,24 @@ module _ {C O R : Type 0} (m : Meaning C O R) where
     -- no event is enabled
     abbrev pub IsFinished : MachineState C O R → Type 0
     IsFinished machine = (e : Event) → is_enabled machine e ≡ false
+
+    -- the event that comes next where no schedule says so: the program's if it is enabled, else that
+    -- of the least lane in which something waits
+    abbrev pub event_by_rule : MachineState C O R → Option Event
+    event_by_rule machine =
+        if is_enabled machine event.Program then Some event.Program
+        else option_map (λ lane. event.Delegate (record { 0 = lane }))
+        (least_busy machine.core.lanes)
+
+    -- these are the events by that rule, up to the end
+    abbrev pub FollowsRule : MachineState C O R → List Event → Type 0
+    FollowsRule machine [] = event_by_rule machine ≡ None
+    FollowsRule machine (e ∷ rest) =
+        (event_by_rule machine ≡ Some e) × FollowsRule (after_event machine e) rest
+
+    -- what n lanes come to under a schedule, and then by the rule
+    pub record IsReplay (n : ℕ) (schedule : List Event) (end_ : MachineState C O R)
+        : Type 0 where
+      pub by_rule : List Event
+      pub follows : FollowsRule (after_schedule (initial_machine n) schedule) by_rule
+      pub is : end_ ≡ after_schedule (initial_machine n) (schedule ++ by_rule)
