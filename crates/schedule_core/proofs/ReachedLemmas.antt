@@ -2,8 +2,10 @@
 use Rattle.std.proofs.Common.{◌≡◌, ℕ, zero, suc, ◌+◌, ◌<◌, ◌≤◌, Bool, true, false, Option, Some, None, List, [], ◌∷◌, ◌++◌, length, map, take, refl, sym, ap, ◌∙◌, subst, arith, add-one}
 use Rattle.std.specs.Prelude.{fold, slice_get, is_some, if◌then◌else◌, ⊤}
 use Rattle.std.specs.List.{list_all, range_with_len}
+use Rattle.std.specs.Option.{option_map}
+use Rattle.std.proofs.lemmas.List.Sums.{fold-append}
 use Rattle.std.proofs.lemmas.List.{map-append, length-map}
-use Rattle.std.proofs.lemmas.Option.{slice_get_within}
+use Rattle.std.proofs.lemmas.Option.{slice_get_within, same_Some}
 use Rattle.ss_base.specs.declared.ids.Event.{Event}
 use Rattle.ss_base.specs.declared.ids.Event.TheVariants as event
 use Rattle.execution_definitions.specs.declared.call.Call.{Call}
@@ -13,15 +15,15 @@ use Rattle.execution_definitions.specs.Held.{last_set}
 use Rattle.execution_definitions.specs.Refusals.{breaks}
 use Rattle.execution_definitions.specs.Soundness.{IsSound, first_refusal}
 use Rattle.execution_definitions.specs.Meanings.{Meaning, shape_of, shapes_of}
-use Rattle.execution_definitions.specs.Sequential.{initial_state, reply_of, sequential_state, sequential_replies}
+use Rattle.execution_definitions.specs.Sequential.{State, initial_state, reply_of, sequential_state, sequential_replies}
 use Rattle.execution_definitions.specs.Programs.{sound_front}
-use Rattle.execution_definitions.specs.Machines.{Entry, Core, MachineState, is_empty, front_at, is_idle_for, entries_done, may_take, call_event, initial_machine, judged_event, taken_event, calls_taken, next_call, may_take_some, is_enabled, program_event, event_taken, after_event, after_schedule, IsFinished}
+use Rattle.execution_definitions.specs.Machines.{Entry, Core, MachineState, is_empty, front_at, is_idle_for, entries_done, may_take, call_event, initial_machine, judged_event, taken_event, calls_taken, next_call, may_take_some, is_enabled, program_event, event_taken, after_event, after_schedule, IsFinished, taken, least_busy, event_by_rule, FollowsRule}
 use Rattle.execution_definitions.proofs.shapes.SoundnessLemmas.{IsSound-push, first_refusal-at, first_refusal-sound}
 use Rattle.execution_definitions.proofs.programs.SequentialLemmas.{shapes_of-push, sequential_replies-push}
 use Rattle.execution_definitions.proofs.programs.ProgramsLemmas.{sound_front-sound, sound_front-at}
 use Rattle.execution_definitions.proofs.programs.OperatedLemmas.{JoinsInAnyOrder}
 use Rattle.execution_definitions.proofs.machines.DrainLemmas.{EachEntry, EachLane, nothing_done}
-use Rattle.schedule_core.specs.Theorem.{IsAtEnd, GivesTheSame, SchedulesGiveTheSame}
+use Rattle.schedule_core.specs.Theorem.{IsAtEnd, GivesTheSame, SchedulesGiveTheSame, ReplaysGiveTheSame, DrainIsByEvents}
 use Rattle.schedule_core.proofs.FollowLemmas.{all_idle, IsHeldIn, Follows, follows-taken, follows-call, reply_same}
 
 -- ---- places of a list
@@ -81,6 +83,30 @@ nothing_waits : {A : Type 0} (lanes : List (List A)) → list_all is_empty lanes
 nothing_waits [] empty = tt
 nothing_waits ([] ∷ lanes) empty = (tt, nothing_waits lanes empty)
 nothing_waits ((entry ∷ rest) ∷ lanes) empty = absurd cc
+
+-- where no lane is the least in which something waits, nothing waits
+idle_lanes : {A : Type 0} (lanes : List (List A)) → least_busy lanes ≡ None →
+    EachEntry (EachEntry (λ entry. ⊥)) lanes
+idle_lanes [] none = tt
+idle_lanes ([] ∷ lanes) none = by_busy (least_busy lanes) refl none (λ n. idle_lanes lanes n) where
+  by_busy : (busy : Option ℕ) → least_busy lanes ≡ busy →
+      option_map (λ lane. lane + 1) busy ≡ None →
+      (least_busy lanes ≡ None → EachEntry (EachEntry (λ entry. ⊥)) lanes) →
+      ⊤ × EachEntry (EachEntry (λ entry. ⊥)) lanes
+  by_busy None is none rest = (tt, rest is)
+  by_busy (Some lane) is none rest = absurd cc
+idle_lanes ((entry ∷ rest) ∷ lanes) none = absurd cc
+
+idle_fronts : {A : Type 0} (lanes : List (List A)) (lane : ℕ) → least_busy lanes ≡ None →
+    is_some (front_at lanes lane) ≡ false
+idle_fronts lanes lane none = no_front lanes lane (idle_lanes lanes none) where
+  no_front : {A : Type 0} (lanes : List (List A)) (lane : ℕ) →
+      EachEntry (EachEntry (λ entry. ⊥)) lanes → is_some (front_at lanes lane) ≡ false
+  no_front [] zero none = refl
+  no_front [] (suc lane) none = refl
+  no_front ([] ∷ lanes) zero none = refl
+  no_front ((entry ∷ rest) ∷ lanes) zero none = absurd none.0.0
+  no_front (entries ∷ lanes) (suc lane) none = no_front lanes lane none.1
 
 module _ {C O R : Type 0} (m : Meaning C O R) where
   -- the call at this place is refused so
@@ -308,3 +334,86 @@ module _ {C O R : Type 0} (m : Meaning C O R) where
   schedules_give_the_same any_order n some calls schedule =
       reached_gives any_order n some calls _ (reached-schedule any_order n some calls schedule
       (initial_machine m n) (reached-first n calls))
+
+  -- ---- by the rule
+
+  rule_stops : (calls : List (Call C O)) (machine : MachineState C O R) (enabled : Bool)
+      (busy : Option ℕ) →
+      (if enabled then Some event.Program
+      else option_map (λ lane. event.Delegate (record { 0 = lane })) busy) ≡ None →
+      (enabled ≡ false) × (busy ≡ None)
+  rule_stops calls machine true busy none = absurd cc
+  rule_stops calls machine false None none = (refl, refl)
+  rule_stops calls machine false (Some lane) none = absurd cc
+
+  stopped_by_rule : (calls : List (Call C O)) (machine : MachineState C O R) →
+      event_by_rule m calls machine ≡ None → IsFinished m calls machine
+  stopped_by_rule calls machine none event.Program =
+      (rule_stops calls machine (is_enabled m calls machine event.Program)
+      (least_busy machine.core.lanes) none).0
+  stopped_by_rule calls machine none (event.Delegate lane) =
+      idle_fronts machine.core.lanes lane.0
+      (rule_stops calls machine (is_enabled m calls machine event.Program)
+      (least_busy machine.core.lanes) none).1
+
+  rule_ends : (calls : List (Call C O)) (machine : MachineState C O R) (by_rule : List Event) →
+      FollowsRule m calls machine by_rule →
+      IsFinished m calls (after_schedule m calls machine by_rule)
+  rule_ends calls machine [] follows = stopped_by_rule calls machine follows
+  rule_ends calls machine (e ∷ rest) follows =
+      rule_ends calls (after_event m calls machine e) rest follows.1
+
+  -- every replay gives the same
+  pub replays_give_the_same : JoinsInAnyOrder m → ReplaysGiveTheSame m
+  replays_give_the_same any_order n some calls schedule end_ replay =
+      let first = initial_machine m n in
+      let whole = after_schedule m calls first (schedule ++ replay.by_rule) in
+      let parted = fold-append (after_event m calls) first schedule replay.by_rule in
+      subst (IsAtEnd m calls) (sym replay.is)
+      ((schedules_give_the_same any_order n some calls (schedule ++ replay.by_rule)).at_end
+      (subst (IsFinished m calls) (sym parted)
+      (rule_ends calls (after_schedule m calls first schedule) replay.by_rule replay.follows)))
+
+  -- ---- by events of lanes
+
+  -- the event of a lane changes nothing of what it comes to
+  abbrev DrainsAt : State C R → List (List (Entry C O)) → ℕ → Option (Entry C O) → Type 0
+  DrainsAt state lanes lane front =
+      let core : Core C O R = record { state = state; lanes = lanes } in
+      fold (entries_done m) (taken m core lane front).state (taken m core lane front).lanes
+      ≡ fold (entries_done m) state lanes
+
+  drains_behind : (state : State C R) (lanes : List (List (Entry C O))) (lane : ℕ)
+      (front : Option (Entry C O)) → DrainsAt state lanes lane front →
+      DrainsAt state ([] ∷ lanes) (suc lane) front
+  drains_behind state lanes lane None more = more
+  drains_behind state lanes lane (Some entry) more = more
+
+  drains_later : (state : State C R) (lanes : List (List (Entry C O))) (lane : ℕ)
+      (busy : Option ℕ) → least_busy lanes ≡ busy →
+      option_map (λ k. k + 1) busy ≡ Some lane →
+      ((k : ℕ) → least_busy lanes ≡ Some k → DrainsAt state lanes k (front_at lanes k)) →
+      DrainsAt state ([] ∷ lanes) lane (front_at ([] ∷ lanes) lane)
+  drains_later state lanes lane None is next more = absurd cc
+  drains_later state lanes lane (Some k) is next more =
+      let same : suc k ≡ lane = sym (add-one k) ∙ same_Some (k + 1) lane next in
+      subst (λ l. DrainsAt state ([] ∷ lanes) l (front_at ([] ∷ lanes) l)) same
+      (drains_behind state lanes k (front_at lanes k) (more k is))
+
+  drains_more : (state : State C R) (lanes : List (List (Entry C O))) (lane : ℕ) →
+      least_busy lanes ≡ Some lane → DrainsAt state lanes lane (front_at lanes lane)
+  drains_more state [] lane is = absurd cc
+  drains_more state ([] ∷ lanes) lane is =
+      drains_later state lanes lane (least_busy lanes) refl is
+      (λ k busy. drains_more state lanes k busy)
+  drains_more state ((entry ∷ rest) ∷ lanes) lane is =
+      let same : 0 ≡ lane = same_Some 0 lane is in
+      subst (λ l. DrainsAt state ((entry ∷ rest) ∷ lanes) l
+      (front_at ((entry ∷ rest) ∷ lanes) l)) same refl
+
+  -- a drain is by events
+  pub drain_is_by_events : DrainIsByEvents m
+  drain_is_by_events core = record {
+    done = λ none. nothing_done m core.state core.lanes (idle_lanes core.lanes none);
+    more = λ lane is. drains_more core.state core.lanes lane is;
+  }

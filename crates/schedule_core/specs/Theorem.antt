@@ -3,14 +3,14 @@
 -- It doesn't: whatever the schedule, the calls that were taken are answered as without delegates,
 -- what waits drains to what they leave without delegates, and a machine that is at its end has just
 -- that.
-use Rattle.std.specs.Prelude.{◌≡◌, ℕ, ◌<◌, List}
+use Rattle.std.specs.Prelude.{◌≡◌, ℕ, ◌<◌, Some, None, List}
 use Rattle.ss_base.specs.declared.ids.Event.{Event}
 use Rattle.execution_definitions.specs.declared.call.Call.{Call}
 use Rattle.execution_definitions.specs.Soundness.{IsSound, first_refusal}
 use Rattle.execution_definitions.specs.Meanings.{Meaning, shapes_of}
 use Rattle.execution_definitions.specs.Sequential.{sequential_state, sequential_replies}
 use Rattle.execution_definitions.specs.Programs.{sound_front}
-use Rattle.execution_definitions.specs.Machines.{MachineState, drained, calls_taken, initial_machine, after_schedule, IsFinished}
+use Rattle.execution_definitions.specs.Machines.{MachineState, least_busy, drained, lane_event, Core, calls_taken, initial_machine, after_schedule, IsFinished, IsReplay}
 
 module _ {C O R : Type 0} (m : Meaning C O R) where
   -- the calls taken so far: none breaks the partition rule, they are answered as without delegates,
@@ -36,3 +36,20 @@ module _ {C O R : Type 0} (m : Meaning C O R) where
   SchedulesGiveTheSame =
       (n : ℕ) → 0 < n → (calls : List (Call C O)) (schedule : List Event) →
       GivesTheSame calls (after_schedule m calls (initial_machine m n) schedule)
+
+  -- so a replay, which goes on by the rule behind its schedule, gives the same for every schedule
+  abbrev pub ReplaysGiveTheSame : Type 0
+  ReplaysGiveTheSame =
+      (n : ℕ) → 0 < n → (calls : List (Call C O)) (schedule : List Event)
+      (end_ : MachineState C O R) → IsReplay m calls n schedule end_ → IsAtEnd calls end_
+
+  -- what waits is drained by events of lanes, that of the least lane first, until nothing waits
+  pub record DrainsByEvents (core : Core C O R) : Type 0 where
+    pub done : least_busy core.lanes ≡ None → drained m core ≡ core.state
+    pub more :
+        (lane : ℕ) → least_busy core.lanes ≡ Some lane →
+        drained m (lane_event m core lane) ≡ drained m core
+
+  -- whatever waits
+  abbrev pub DrainIsByEvents : Type 0
+  DrainIsByEvents = (core : Core C O R) → DrainsByEvents core

@@ -1,6 +1,6 @@
 // The theorem of schedules, over definitions alone. There is nothing to run.
 
-ghost use Rattle.schedule_core.specs.Theorem.{SchedulesGiveTheSame};
+ghost use Rattle.schedule_core.specs.Theorem.{DrainIsByEvents, ReplaysGiveTheSame, SchedulesGiveTheSame};
 
 use class_laws::{Class, joins_in_any_order};
 
@@ -12,3 +12,18 @@ pub fn every_schedule_gives_the_same<C: Class>()
 {
     joins_in_any_order::<C>();
 }
+
+/// A replay goes on by a fixed rule behind its schedule: the program context where it may, else the
+/// least lane in which something waits. Every schedule gives the values, the total, the replies and
+/// the refusal of the program without delegates.
+pub fn every_replay_gives_the_same<C: Class>()
+    ensures { ReplaysGiveTheSame C.meaning }
+{
+    joins_in_any_order::<C>();
+}
+
+/// To drain a core is to take events of lanes, that of the least lane in which something waits first,
+/// until nothing waits.
+pub fn a_drain_is_by_events<C: Class>()
+    ensures { DrainIsByEvents C.meaning }
+{}
