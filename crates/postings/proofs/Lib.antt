@@ -1,2 +1,3 @@
 pub mod PostingListsLemmas
 pub mod NumbersLemmas
+pub mod SpellingLemmas
