@@ -1,5 +1,5 @@
 -- Lists of postings: one document more, the first taken off, and how long they can be.
-use Rattle.std.proofs.Common.{ℕ, suc, ◌<◌, ◌≤◌, ◌+◌, List, [], ◌∷◌, ◌++◌, length, get_or, arith}
+use Rattle.std.proofs.Common.{ℕ, suc, ◌<◌, ◌≤◌, ◌+◌, List, [], ◌∷◌, ◌++◌, length, get_or, arith, ◌≡◌, refl}
 use Rattle.index_definitions.specs.PostingLists.{ArePositions, RisesAbove}
 use Rattle.index_definitions.specs.PostingLists.{ListsPostings, ListsPostingsAbove}
 use Rattle.index_definitions.specs.PostingLists.{DocumentPositions, PostingList, last_document}
@@ -48,3 +48,10 @@ pub length-ListsPostings-le :
     (es : PostingList) → ListsPostings es → length es ≤ last_document es
 length-ListsPostings-le [] lists = omega arith
 length-ListsPostings-le (e ∷ es) lists = omega (arith, length-ListsPostingsAbove-le 0 e es lists)
+
+-- a document more is the last
+pub last_document-push : (es : PostingList) (document : ℕ) (positions : List ℕ)
+    → last_document (es ++ (document, positions) ∷ []) ≡ document
+last_document-push [] document positions = refl
+last_document-push (e ∷ []) document positions = refl
+last_document-push (e ∷ f ∷ es) document positions = last_document-push (f ∷ es) document positions

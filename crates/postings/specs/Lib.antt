@@ -1,2 +1,4 @@
+pub mod Appending
 pub mod Numbers
 pub mod Spelling
+pub mod Stuck

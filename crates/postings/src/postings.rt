@@ -5,7 +5,9 @@ ghost use Rattle.std.specs.Iterator.{YieldsFirst, item_count};
 ghost use Rattle.index_definitions.specs.PostingLists.{ListsPostings, ArePositions};
 ghost use Rattle.index_definitions.specs.PostingLists.{last_document, pairs_of};
 ghost use Rattle.postings.specs.Numbers.{lists_of, HoldPostings};
+ghost use Rattle.postings.specs.Spelling.{Spells};
 
+use crate::encoding::push_documents;
 use ss_base::OutOfMemory;
 use std::alloc::Global;
 use std::fmt;
@@ -108,6 +110,15 @@ impl Postings {
         }
     }
 
+    /// The bytes that spell the list.
+    pub fn encode(&self, alloc: Global) -> Result<Vec<u8>, OutOfMemory>
+        ensures { IfOk result (λ bytes. Spells bytes.items self.now) }
+    {
+        let mut bytes = Vec::new(alloc);
+        push_documents(&mut bytes, &self.numbers)?;
+        Ok(bytes)
+    }
+
     /// How many documents there are. It takes no memory.
     pub fn documents(&self) -> u64
         ensures { result ≡ length self.now }
@@ -123,8 +134,8 @@ impl fmt::Debug for Postings {
     }
 }
 
-// The first document, its positions, and the numbers behind them.
-fn split_document(numbers: &[u32]) -> Option<(u32, &[u32], &[u32])>
+/// The first document, its positions, and the numbers behind them.
+pub(crate) fn split_document(numbers: &[u32]) -> Option<(u32, &[u32], &[u32])>
     requires { HoldPostings numbers.now }
     ensures none { IfNone result (numbers.now ≡ []) }
     ensures first { IfSome result (λ parts.

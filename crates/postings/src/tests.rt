@@ -1,5 +1,5 @@
 // What no clause says: that memory is found, and how postings are shown.
-use crate::Postings;
+use crate::{Postings, PostingsFault, decode};
 use std::test::Fail;
 
 #[test]
@@ -15,5 +15,86 @@ fn postings_come_back_in_order(rt: HostRuntime) -> Result<(), Fail> {
     assert_eq!(rt; postings.documents(), 2);
     let shown = format!(in alloc; "{postings:?}")?;
     assert_eq!(rt; shown.as_str(), "[(1, 1), (1, 3), (4, 2)]");
+    Ok(())
+}
+
+// The bytes of each list, and the list of those bytes.
+#[test]
+fn lists_are_spelt_as_the_format_says(rt: HostRuntime) -> Result<(), Fail> {
+    let alloc = rt.alloc();
+    let cases: [(&[(u32, &[u32])], &[u8]); 9] = [
+        (&[], &[]),
+        (&[(1, &[1, 3])], &[1, 1, 2, 0]),
+        (&[(1, &[2]), (2, &[1])], &[1, 2, 0, 1, 1, 0]),
+        (&[(128, &[1])], &[0x80, 1, 1, 0]),
+        (&[(127, &[128])], &[0x7F, 0x80, 1, 0]),
+        (&[(1, &[16383, 16384])], &[1, 0xFF, 0x7F, 1, 0]),
+        (&[(16384, &[16384])], &[0x80, 0x80, 1, 0x80, 0x80, 1, 0]),
+        (
+            &[(u32::MAX, &[u32::MAX])],
+            &[0xFF, 0xFF, 0xFF, 0xFF, 15, 0xFF, 0xFF, 0xFF, 0xFF, 15, 0],
+        ),
+        (
+            &[(1, &[1, u32::MAX])],
+            &[1, 1, 0xFE, 0xFF, 0xFF, 0xFF, 15, 0],
+        ),
+    ];
+    for (list, bytes) in cases {
+        let mut postings = Postings::new(alloc);
+        for (document, positions) in list {
+            postings.append(*document, positions)?;
+        }
+        assert_eq!(rt; postings.encode(alloc)?.as_slice(), bytes, "at {bytes:?}");
+        let again = decode(alloc, bytes)?;
+        let pairs: Vec<(u32, u32)> = postings.iter().collect(alloc)?;
+        let others: Vec<(u32, u32)> = again.iter().collect(alloc)?;
+        assert_eq!(rt; others.as_slice(), pairs.as_slice(), "at {bytes:?}");
+        assert_eq!(rt; again.documents(), postings.documents(), "at {bytes:?}");
+    }
+    Ok(())
+}
+
+// Where bytes that spell no list stop to begin one.
+#[test]
+fn other_bytes_are_refused_at_the_place_of_the_fault(rt: HostRuntime) -> Result<(), Fail> {
+    let alloc = rt.alloc();
+    let cases: [(&[u8], usize); 23] = [
+        (&[0], 0),
+        (&[0x81, 0], 1),
+        (&[0x80, 0x80, 0], 2),
+        (&[1, 0], 1),
+        (&[1], 1),
+        (&[1, 1], 2),
+        (&[1, 0x80], 2),
+        (&[0x80], 1),
+        (&[1, 2, 0, 1], 4),
+        (&[1, 2, 0, 1, 1], 5),
+        (&[1, 2, 0, 0], 3),
+        // one above the greatest number, and numbers that can't be finished within it
+        (&[0xFF, 0xFF, 0xFF, 0xFF, 16], 4),
+        (&[0x80, 0x80, 0x80, 0x80, 16], 4),
+        (&[0xFF, 0xFF, 0xFF, 0xFF, 0x80], 4),
+        (&[0xFF, 0xFF, 0xFF, 0xFF], 4),
+        (&[0x80, 0x80, 0x80, 0x80, 15], 5),
+        // behind the greatest document or position comes none
+        (&[0xFF, 0xFF, 0xFF, 0xFF, 15, 1, 0, 1], 7),
+        (&[0xFF, 0xFF, 0xFF, 0xFF, 15, 1, 0, 0x80], 7),
+        (&[1, 0xFF, 0xFF, 0xFF, 0xFF, 15, 1], 6),
+        (&[1, 1, 0xFE, 0xFF, 0xFF, 0xFF, 16], 6),
+        (&[1, 1, 0xFF, 0xFF, 0xFF, 0xFF, 15], 6),
+        (
+            &[1, 0xFF, 0xFF, 0xFF, 0xFF, 14, 0xFF, 0xFF, 0xFF, 0x80, 1],
+            9,
+        ),
+        (&[1, 0xFF, 0xFF, 0xFF, 0xFF, 14, 0x80, 0x80, 0x80, 0x81], 9),
+    ];
+    for (bytes, at) in cases {
+        let answer = decode(alloc, bytes).err();
+        assert_eq!(rt;
+            answer,
+            Some(PostingsFault::BadPostings { at }),
+            "at {bytes:?}"
+        );
+    }
     Ok(())
 }
