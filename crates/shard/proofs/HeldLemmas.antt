@@ -16,7 +16,8 @@ use Rattle.text_table.proofs.TextMapsLemmas.{text_order_total}
 use Rattle.shard.specs.Shards.{TermLists, ShardParts, empty_shard, list_of, last_in}
 use Rattle.shard.specs.Shards.{comes_last, with_document, with_terms, gathered}
 use Rattle.shard.specs.Shards.{gathered_last, words_of_shard, after_document, shard_after}
-use Rattle.shard.proofs.ShardLemmas.{last_document-push, entry_last, last_in-empty}
+use Rattle.postings.proofs.PostingListsLemmas.{last_document-push}
+use Rattle.shard.proofs.ShardLemmas.{entry_last, last_in-empty}
 use Rattle.shard.proofs.GatherLemmas.{gathered-later}
 
 -- ---- one document more

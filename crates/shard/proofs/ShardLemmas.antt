@@ -12,6 +12,7 @@ use Rattle.index_definitions.specs.PostingLists.{PostingList, last_document}
 use Rattle.index_definitions.proofs.GreatestLemmas.{greatest, greatest-max}
 use Rattle.text_table.specs.TextMaps.{text_order}
 use Rattle.text_table.proofs.TextMapsLemmas.{text_order_total}
+use Rattle.postings.proofs.PostingListsLemmas.{last_document-push}
 use Rattle.shard.specs.Shards.{TermLists, ShardParts, list_of, last_in, with_positions}
 
 -- a shard is its number and its posting lists
@@ -20,12 +21,6 @@ parts number lists = record { number = number; lists = lists }
 
 pub same_parts : (s t : ShardParts) → s.number ≡ t.number → s.lists ≡ t.lists → s ≡ t
 same_parts s t p q = ap₂ parts p q
-
-pub last_document-push : (es : PostingList) (document : ℕ) (positions : List ℕ)
-    → last_document (es ++ (document, positions) ∷ []) ≡ document
-last_document-push [] document positions = refl
-last_document-push (e ∷ []) document positions = refl
-last_document-push (e ∷ f ∷ es) document positions = last_document-push (f ∷ es) document positions
 
 -- the last document of an entry
 abbrev pub entry_last : List ℕ × PostingList → ℕ
