@@ -1,3 +1,4 @@
 pub mod WorkedCases
 pub mod WorkedPrograms
 pub mod WorkedMerges
+pub mod WorkedReplays
