@@ -43,6 +43,17 @@ module _ {C O R : Type 0} (m : Meaning C O R) where
       (n : ℕ) → 0 < n → (calls : List (Call C O)) (schedule : List Event)
       (end_ : MachineState C O R) → IsReplay m calls n schedule end_ → IsAtEnd calls end_
 
+  -- under a schedule there is one replay
+  pub record IsOneReplay (calls : List (Call C O)) (n : ℕ) (schedule : List Event) : Type 0 where
+    pub end_ : MachineState C O R
+    pub is : IsReplay m calls n schedule end_
+    pub no_other : (other : MachineState C O R) → IsReplay m calls n schedule other → other ≡ end_
+
+  -- the rule always comes to an end, and to one
+  abbrev pub ReplaysAreOne : Type 0
+  ReplaysAreOne =
+      (n : ℕ) (calls : List (Call C O)) (schedule : List Event) → IsOneReplay calls n schedule
+
   -- what waits is drained by events of lanes, that of the least lane first, until nothing waits
   pub record DrainsByEvents (core : Core C O R) : Type 0 where
     pub done : least_busy core.lanes ≡ None → drained m core ≡ core.state

@@ -3,4 +3,7 @@
 
 mod laws;
 
-pub use laws::{a_drain_is_by_events, every_replay_gives_the_same, every_schedule_gives_the_same};
+pub use laws::{
+    a_drain_is_by_events, every_replay_gives_the_same, every_schedule_gives_the_same,
+    every_schedule_has_one_replay,
+};
