@@ -1,15 +1,15 @@
 -- A log, compared with what was sent to its lane, run by run.
-use Rattle.std.proofs.Common.{◌≡◌, ℕ, zero, suc, ◌+◌, ◌<◌, ◌≤◌, Bool, true, false, Option, Some, None, List, [], ◌∷◌, ◌++◌, length, take, drop, get_or, refl, sym, ap, ◌∙◌, arith, append-nil}
+use Rattle.std.proofs.Common.{◌≡◌, ℕ, suc, ◌+◌, ◌<◌, ◌≤◌, Bool, true, false, Option, Some, None, List, [], ◌∷◌, ◌++◌, length, take, drop, get_or, refl, sym, ap, ◌∙◌, arith, append-nil}
 use Rattle.std.specs.Prelude.{filter, map, slice_get, ◌==◌}
 use Rattle.std.proofs.lemmas.Bool.Decides.{nat_tests}
 use Rattle.std.proofs.Math.Seq.{take-append_seam, drop-cons}
-use Rattle.std.proofs.lemmas.List.{take_more, take-append-drop, map-append}
+use Rattle.std.proofs.lemmas.List.{take_more, take_all, length-take-le, take-append-drop, map-append}
 use Rattle.std.proofs.lemmas.List.Elements.{filter-append}
-use Rattle.std.proofs.lemmas.Option.{slice_get_within}
+use Rattle.std.proofs.lemmas.Option.{slice_get_within, slice_get_past, get_or_from_slice_get}
 use Rattle.std.proofs.lemmas.Grind.{flat_map-append}
 use Rattle.ss_base.specs.declared.ids.Run.{Run}
 use Rattle.execution_definitions.specs.Runs.{is_in_lane, is_of_set}
-use Rattle.execution_definitions.proofs.lists.ListLemmas.{slice_get-append_seam}
+use Rattle.execution_definitions.proofs.lists.ListLemmas.{past_none, slice_get-append_seam}
 use Rattle.history.specs.Logs.{calls_in, calls_of_set, wanted_in, DiffersAt}
 
 module _ {A : Type 0} where
@@ -21,33 +21,12 @@ module _ {A : Type 0} where
       filter test (x ∷ rest) ≡ filter test rest
   filter-out test x rest is = rw is refl
 
-  length-front : (xs : List A) (k : ℕ) → k ≤ length xs → length (take k xs) ≡ k
-  length-front xs zero within = refl
-  length-front [] (suc k) within = absurd (omega arith)
-  length-front (x ∷ xs) (suc k) within = ap suc (length-front xs k (omega arith))
-
-  take-whole : (xs : List A) (k : ℕ) → length xs ≤ k → take k xs ≡ xs
-  take-whole [] zero within = refl
-  take-whole [] (suc k) within = refl
-  take-whole (x ∷ xs) zero within = absurd (omega arith)
-  take-whole (x ∷ xs) (suc k) within = ap (λ l. x ∷ l) (take-whole xs k (omega arith))
-
+  -- one element more
   take-next : (xs : List A) (k : ℕ) (x : A) → slice_get xs k ≡ Some x →
-      take (suc k) xs ≡ take k xs ++ x ∷ []
-  take-next [] zero x is = absurd cc
-  take-next [] (suc k) x is = absurd cc
-  take-next (y ∷ ys) zero x is = let same : y ≡ x = cc in ap (λ z. z ∷ []) same
-  take-next (y ∷ ys) (suc k) x is = ap (λ l. y ∷ l) (take-next ys k x is)
-
-  past-end : (xs : List A) (k : ℕ) → slice_get xs k ≡ None → length xs ≤ k
-  past-end [] zero none = omega arith
-  past-end [] (suc k) none = omega arith
-  past-end (x ∷ xs) zero none = absurd cc
-  past-end (x ∷ xs) (suc k) none = let later = past-end xs k none in omega arith
-
-  at-end : (xs : List A) → slice_get xs (length xs) ≡ None
-  at-end [] = refl
-  at-end (x ∷ xs) = at-end xs
+      take (k + 1) xs ≡ take k xs ++ x ∷ []
+  take-next xs k x is =
+      take_more xs k x (slice_get_within xs k x is)
+      ∙ ap (λ y. take k xs ++ y ∷ []) (get_or_from_slice_get xs k x x is)
 
 -- ---- the calls of a set
 
@@ -77,7 +56,7 @@ module _ (epoch set : ℕ) where
 
   pub calls_in-all : (runs : List Run) (i : ℕ) → length runs ≤ i →
       calls_in epoch set (take i runs) ≡ calls_in epoch set runs
-  calls_in-all runs i past = ap (calls_in epoch set) (take-whole runs i past)
+  calls_in-all runs i past = ap (calls_in epoch set) (take_all i runs past)
 
   pub calls_of_set-next : (logs : List (List Run)) (i : ℕ) (d : List Run) → i < length logs →
       calls_of_set epoch set (take (i + 1) logs)
@@ -90,7 +69,7 @@ module _ (epoch set : ℕ) where
 
   pub calls_of_set-all : (logs : List (List Run)) (i : ℕ) → length logs ≤ i →
       calls_of_set epoch set (take i logs) ≡ calls_of_set epoch set logs
-  calls_of_set-all logs i past = ap (calls_of_set epoch set) (take-whole logs i past)
+  calls_of_set-all logs i past = ap (calls_of_set epoch set) (take_all i logs past)
 
 -- ---- one lane
 
@@ -114,20 +93,20 @@ module _ (n lane : ℕ) (sent log : List Run) where
     pub ends_same : length sent ≤ index → slice_get log place ≡ None →
         log ≡ wanted_in n lane sent
     ends_same past none =
-        sym (take-whole log place (past-end log place none)) ∙ sym agrees.same
-        ∙ ap (wanted_in n lane) (take-whole sent index past)
+        sym (take_all place log (past_none log place none)) ∙ sym agrees.same
+        ∙ ap (wanted_in n lane) (take_all index sent past)
 
     pub goes_past : length sent ≤ index → (found : Option Run) → slice_get log place ≡ found →
         (None ≡ found → ⊥) → DiffersAt (wanted_in n lane sent) log place None found
     goes_past past found is differ =
         let all : wanted_in n lane sent ≡ take place log =
-        ap (wanted_in n lane) (sym (take-whole sent index past)) ∙ agrees.same in
-        let long = length-front log place agrees.within in
+        ap (wanted_in n lane) (sym (take_all index sent past)) ∙ agrees.same in
+        let long = length-take-le place log agrees.within in
         record {
           same = ap (take place) all
-              ∙ take-whole (take place log) place (omega arith);
+              ∙ take_all place (take place log) (omega arith);
           wanted_there = ap (λ (l : List Run). slice_get l place) all
-              ∙ ap (slice_get (take place log)) (sym long) ∙ at-end (take place log);
+              ∙ ap (slice_get (take place log)) (sym long) ∙ slice_get_past (take place log) (length (take place log)) (omega arith);
           found_there = is;
           differ = differ;
         }
@@ -151,7 +130,6 @@ module _ (n lane : ℕ) (sent log : List Run) where
       agrees-more is found at same =
           let here : slice_get log place ≡ Some run = at ∙ sym same in
           let long : place < length log = slice_get_within log place run here in
-          let next : suc place ≡ place + 1 = omega arith in
           record {
             within = omega arith;
             same = ap (wanted_in n lane) (take_more sent index d inside)
@@ -159,8 +137,7 @@ module _ (n lane : ℕ) (sent log : List Run) where
                 ∙ ap (λ l. wanted_in n lane (take index sent) ++ l)
                 (filter-in (is_in_lane n lane) run [] is)
                 ∙ ap (λ l. l ++ run ∷ []) agrees.same
-                ∙ sym (take-next log place run here)
-                ∙ ap (λ k. take k log) next;
+                ∙ sym (take-next log place run here);
           }
 
       pub differs_here : is_in_lane n lane run ≡ true → (found : Option Run) →
@@ -175,7 +152,7 @@ module _ (n lane : ℕ) (sent log : List Run) where
           ∙ filter-append (is_in_lane n lane) (take index sent) (run ∷ drop (suc index) sent)
           ∙ ap (λ l. front ++ l) (filter-in (is_in_lane n lane) run (drop (suc index) sent) is) in
           let long : place ≡ length front =
-          sym (ap length agrees.same ∙ length-front log place agrees.within) in
+          sym (ap length agrees.same ∙ length-take-le place log agrees.within) in
           record {
             same = ap (take place) all ∙ ap (λ k. take k (front ++ run ∷ behind)) long
                 ∙ take-append_seam front (run ∷ behind) ∙ agrees.same;

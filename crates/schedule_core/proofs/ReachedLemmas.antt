@@ -4,8 +4,9 @@ use Rattle.std.specs.Prelude.{fold, slice_get, is_some, if◌then◌else◌, ⊤
 use Rattle.std.specs.List.{list_all, range_with_len}
 use Rattle.std.specs.Option.{option_map}
 use Rattle.std.proofs.lemmas.List.Sums.{fold-append}
-use Rattle.std.proofs.lemmas.List.{map-append, length-map}
-use Rattle.std.proofs.lemmas.Option.{slice_get_within, same_Some}
+use Rattle.std.proofs.lemmas.List.{map-append, length-map, take_more, take_all, length-take-le}
+use Rattle.execution_definitions.proofs.lists.ListLemmas.{past_none}
+use Rattle.std.proofs.lemmas.Option.{slice_get_within, same_Some, get_or_from_slice_get}
 use Rattle.ss_base.specs.declared.ids.Event.{Event}
 use Rattle.ss_base.specs.declared.ids.Event.TheVariants as event
 use Rattle.execution_definitions.specs.declared.call.Call.{Call}
@@ -30,22 +31,10 @@ use Rattle.schedule_core.proofs.FollowLemmas.{all_idle, IsHeldIn, Follows, follo
 
 module _ {A : Type 0} where
   take-next : (xs : List A) (k : ℕ) (x : A) → slice_get xs k ≡ Some x →
-      take (suc k) xs ≡ take k xs ++ x ∷ []
-  take-next [] zero x is = absurd cc
-  take-next [] (suc k) x is = absurd cc
-  take-next (y ∷ ys) zero x is = let same : y ≡ x = cc in ap (λ z. z ∷ []) same
-  take-next (y ∷ ys) (suc k) x is = ap (λ l. y ∷ l) (take-next ys k x is)
-
-  length-front : (xs : List A) (k : ℕ) → k ≤ length xs → length (take k xs) ≡ k
-  length-front xs zero within = refl
-  length-front [] (suc k) within = absurd (omega arith)
-  length-front (y ∷ ys) (suc k) within = ap suc (length-front ys k (omega arith))
-
-  take-whole : (xs : List A) (k : ℕ) → slice_get xs k ≡ None → take k xs ≡ xs
-  take-whole [] zero none = refl
-  take-whole [] (suc k) none = refl
-  take-whole (y ∷ ys) zero none = absurd cc
-  take-whole (y ∷ ys) (suc k) none = ap (λ l. y ∷ l) (take-whole ys k none)
+      take (k + 1) xs ≡ take k xs ++ x ∷ []
+  take-next xs k x is =
+      take_more xs k x (slice_get_within xs k x is)
+      ∙ ap (λ y. take k xs ++ y ∷ []) (get_or_from_slice_get xs k x x is)
 
   -- a list around one of its places
   record IsAround (xs : List A) (k : ℕ) (x : A) : Type 0 where
@@ -173,9 +162,9 @@ module _ {C O R : Type 0} (m : Meaning C O R) where
       reached-judged call at may None accepts =
           let inside : machine.next < length calls = slice_get_within calls machine.next call at in
           let more : before ++ call ∷ [] ≡ take (machine.next + 1) calls =
-          sym (ap (λ k. take k calls) (add-one machine.next) ∙ take-next calls machine.next call at) in
+          sym (take-next calls machine.next call at) in
           let count : machine.next ≡ length before =
-          sym (length-front calls machine.next reached.within) in
+          sym (length-take-le machine.next calls reached.within) in
           let shapes = shapes_of-push m before call in
           let sound : IsSound (shapes_of m (before ++ call ∷ [])) =
           subst IsSound (sym shapes)
@@ -296,7 +285,7 @@ module _ {C O R : Type 0} (m : Meaning C O R) where
           machine.stop ≡ None → may_take_some m calls machine found ≡ false →
           IsAtEnd m calls machine
       end_found None at stop done =
-          let whole = take-whole calls machine.next at in
+          let whole = take_all machine.next calls (past_none calls machine.next at) in
           let sound = subst (λ l. IsSound (shapes_of m l)) whole reached.sound in
           end_at (whole ∙ sym (sound_front-sound m calls sound))
           (stop ∙ sym (first_refusal-sound (shapes_of m calls) sound))
