@@ -18,6 +18,7 @@ use ss_base::{ObjectId, SetId};
 impl Marks {
     /// Whether an operation may be delegated to `o`, reading the object `reading` or none. The
     /// operation names the number `own`. Ok gives the operation's set.
+    #[inline(always)] // else its answer, which has room for a refusal, goes through memory
     pub fn check_delegate(
         &self,
         o: ObjectId,
@@ -102,6 +103,7 @@ impl Marks {
     }
 
     // The refusals are tried in the order of their row; the first that holds is answered.
+    #[inline(always)] // else its answer, which has room for a refusal, goes through memory
     fn judge_delegate(
         &self,
         o: ObjectId,

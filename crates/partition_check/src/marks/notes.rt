@@ -22,7 +22,9 @@ use ss_base::{ObjectId, SetId};
 impl Marks {
     /// Checks a delegation and, where it isn't refused, marks and counts it: `check_delegate` and
     /// `note_delegate` in one call. Ok gives the operation's set.
-    #[inline] // else each answer, which has room for a refusal, goes through memory
+    // Always, since LLVM inlines it into a first caller alone. Else each answer, which has room for a
+    // refusal, goes through memory.
+    #[inline(always)]
     pub fn delegate(
         &mut self,
         o: ObjectId,
