@@ -6,13 +6,16 @@ use std::alloc::{AllocError, Global};
 use std::env;
 use std::env::{Args, Env};
 use std::io::ErrorKind;
+use thiserror::Error;
 
 /// Why there are no words.
-#[derive(Clone, Copy, Debug, PartialEq, Eq)]
+#[derive(Clone, Copy, Debug, PartialEq, Eq, Error)]
 pub enum ArgumentsFault {
     /// An argument isn't UTF-8, so that it is no word.
+    #[error("an argument is no UTF-8")]
     NotText,
     /// There was no memory for the words.
+    #[error("out of memory")]
     OutOfMemory,
 }
 
