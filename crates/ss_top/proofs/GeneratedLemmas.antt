@@ -8,10 +8,10 @@ use Rattle.std.specs.List.{flat_map, range_with_len}
 use Rattle.std.proofs.lemmas.List.{take-append-drop}
 use Rattle.std.proofs.lemmas.List.FromFn.{map-range_with_len_more, take-map-range_with_len}
 use Rattle.std.proofs.lemmas.List.FromFn.{length-map-range_with_len, sum_by-map-range_with_len_more}
+use Rattle.ss_base.specs.declared.limits.TheConstants as limits
 use Rattle.ss_top.specs.declared.status.LimitHit.TheVariants.{Names}
 use Rattle.ss_top.specs.Generated.{state_after, state_at, generated_word, generated_document}
 use Rattle.ss_top.specs.Generated.{generated_documents, generated_limit}
-use Rattle.ss_top.specs.Limits.{names_limit, document_limit, all_documents_limit}
 use Rattle.ss_top.specs.Limits.{limit_with, first_limit}
 use Rattle.ss_top.proofs.LimitsLemmas.{first_limit-push, first_limit-passed}
 use Rattle.ss_top.proofs.PartsLemmas.{flat_map-append}
@@ -78,10 +78,10 @@ module _ (words seed : ℕ) where
 
   -- where they aren't too many
   pub generated_limit-few :
-      (docs : ℕ) → docs ≤ names_limit
+      (docs : ℕ) → docs ≤ limits.NAMES
       → generated_limit docs words seed ≡ first_limit (generated_documents docs words seed)
   generated_limit-few docs few =
-      let fits : nat_lt names_limit docs ≡ false = grind arith in
+      let fits : nat_lt limits.NAMES docs ≡ false = grind arith in
       ap (λ b. cond b (Some (Names docs)) (first_limit (generated_documents docs words seed))) fits
 
   pub sum_by-generated_documents-more :
@@ -92,11 +92,11 @@ module _ (words seed : ℕ) where
       sum_by-map-range_with_len_more length document_at 0 n n (omega arith)
 
   module _ (n left : ℕ)
-      (sum : left + sum_by length (generated_documents n words seed) ≡ all_documents_limit)
+      (sum : left + sum_by length (generated_documents n words seed) ≡ limits.ALL_DOCUMENT_BYTES)
       (none : first_limit (generated_documents n words seed) ≡ None) where
     -- one document more that meets none
     pub first_limit-more :
-        length (document_at n) ≤ min left document_limit
+        length (document_at n) ≤ min left limits.DOCUMENT_BYTES
         → first_limit (generated_documents (n + 1) words seed) ≡ None
     first_limit-more within =
         ap first_limit (generated_documents-more n)
@@ -104,8 +104,8 @@ module _ (words seed : ℕ) where
 
     -- a document that passes what is left
     pub generated_limit-met :
-        (docs : ℕ) → n < docs → docs ≤ names_limit
-        → min left document_limit < length (document_at n)
+        (docs : ℕ) → n < docs → docs ≤ limits.NAMES
+        → min left limits.DOCUMENT_BYTES < length (document_at n)
         → generated_limit docs words seed ≡ Some (limit_with (n + 1) left)
     generated_limit-met docs less few passes =
         let rest = drop (n + 1) (generated_documents docs words seed) in
@@ -123,12 +123,12 @@ module _ (words seed : ℕ) where
   -- documents that meet no limit aren't too many
   pub generated_limit-none :
       (docs : ℕ) → generated_limit docs words seed ≡ None
-      → (docs ≤ names_limit) × (first_limit (generated_documents docs words seed) ≡ None)
+      → (docs ≤ limits.NAMES) × (first_limit (generated_documents docs words seed) ≡ None)
   generated_limit-none docs none =
       ⊎_elim
       (λ over. let some : generated_limit docs words seed ≡ Some (Names docs) =
       ap (λ b. cond b (Some (Names docs)) (first_limit (generated_documents docs words seed))) over
       in cc)
-      (λ fits. let few : docs ≤ names_limit = grind arith in
+      (λ fits. let few : docs ≤ limits.NAMES = grind arith in
       (few, sym (generated_limit-few docs few) ∙ none))
-      (cases_Bool (nat_lt names_limit docs))
+      (cases_Bool (nat_lt limits.NAMES docs))

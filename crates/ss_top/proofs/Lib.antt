@@ -1,7 +1,9 @@
+pub mod AnswersLemmas
 pub mod CommandLineLemmas
 pub mod GeneratedLemmas
-pub mod IndexLemmas
+pub mod InputsLemmas
 pub mod LimitsLemmas
 pub mod LinesLemmas
 pub mod PartsLemmas
+pub mod ReadingsLemmas
 pub mod RunsLemmas

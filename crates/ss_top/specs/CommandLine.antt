@@ -1,9 +1,9 @@
--- What do the words of a command line ask for, and which inputs does that have?
+-- What do the words of a command line ask for?
 --
 -- Words are those after the program's name. The name `-` is standard input.
 use Rattle.std.specs.Prelude.{ℕ, ◌-◌, ◌^◌, ◌<◌, ◌≤◌, nat_le, ⊤}
 use Rattle.std.specs.Prelude.{Bool, true, false, not, ◌&&◌, ◌==◌, if◌then◌else◌}
-use Rattle.std.specs.Prelude.{List, [], ◌∷◌, length, slice_get, codes, Some, None, IsSome}
+use Rattle.std.specs.Prelude.{List, [], ◌∷◌, length, codes, Some, None}
 use Rattle.std.specs.declared.option.Option.{Option}
 use Rattle.std.specs.List.{list_all}
 use Rattle.std.specs.Str.{bytes_eq}
@@ -11,8 +11,6 @@ use Rattle.std.specs.Str.Parse.{digits_value}
 use Rattle.script_lang.specs.Tokens.{is_numeral}
 use Rattle.ss_top.specs.declared.command.Command.{Command}
 use Rattle.ss_top.specs.declared.command.Command.TheVariants as command
-use Rattle.ss_top.specs.declared.status.Which.{Which}
-use Rattle.ss_top.specs.declared.status.Which.TheVariants.{Stop, Name, Script}
 
 -- the word can name an input: it isn't empty, and begins with `-` (byte 45) only where it is that
 abbrev pub is_input_name : List ℕ → Bool
@@ -66,7 +64,7 @@ gen_command (docs ∷ words ∷ seed ∷ []) =
     (number_in 0 (2 ^ 31 - 1) seed)
 gen_command _ = None
 
--- the command that the words are; none is usage
+-- the command that the words are, which `command_of` computes; none is usage
 abbrev pub outcome : List (List ℕ) → Option Command
 outcome [] = None
 outcome (name ∷ words) =
@@ -81,19 +79,3 @@ abbrev pub CanBeAsked : Command → Type 0
 CanBeAsked (command.Index stop names) = 1 ≤ length names
 CanBeAsked (command.Script name) = ⊤
 CanBeAsked (command.Gen docs words seed) = (1 ≤ docs) × (seed < 2 ^ 31)
-
--- the name with this number, counted from 1
-abbrev pub name_at : List (List ℕ) → ℕ → Option (List ℕ)
-name_at names i = if i == 0 then None else slice_get names (i - 1)
-
--- the name of an input of a command, where it has that input
-abbrev pub input_name : Command → Which → Option (List ℕ)
-input_name (command.Index stop names) Stop = stop
-input_name (command.Index stop names) (Name i) = name_at names i
-input_name (command.Script name) Script = Some name
-input_name _ _ = None
-
--- an input of the command that the words are
-abbrev pub IsInputOf : Option Command → Which → Type 0
-IsInputOf None which = ⊥
-IsInputOf (Some command) which = IsSome (input_name command which)

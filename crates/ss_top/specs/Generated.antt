@@ -8,7 +8,8 @@ use Rattle.std.specs.declared.option.Option.{Option}
 use Rattle.std.specs.List.{flat_map, range_with_len}
 use Rattle.ss_top.specs.declared.status.LimitHit.{LimitHit}
 use Rattle.ss_top.specs.declared.status.LimitHit.TheVariants.{Names}
-use Rattle.ss_top.specs.Limits.{names_limit, first_limit}
+use Rattle.ss_base.specs.declared.limits.TheConstants as limits
+use Rattle.ss_top.specs.Limits.{first_limit}
 
 -- the state behind this one
 abbrev pub state_after : ℕ → ℕ
@@ -35,6 +36,6 @@ generated_documents docs words seed =
 -- the limit that they meet first, where they meet any
 abbrev pub generated_limit : ℕ → ℕ → ℕ → Option LimitHit
 generated_limit docs words seed =
-    if nat_lt names_limit docs
+    if nat_lt limits.NAMES docs
     then Some (Names docs)
     else first_limit (generated_documents docs words seed)

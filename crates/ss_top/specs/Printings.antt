@@ -1,17 +1,18 @@
--- For which answer does a text stand that a command gives, and which names does a script have that
--- broke the partition rule?
-use Rattle.std.specs.Prelude.{◌≡◌, ℕ, List, [], Some, None, IfSome}
+-- What does the result of a command say of the answer that is called for, and which names does a
+-- script have that broke the partition rule?
+use Rattle.std.specs.Prelude.{◌≡◌, ℕ, List, [], ⊤, Some, None, IfSome, IfOk, Result, Ok, Err}
 use Rattle.std.specs.declared.option.Option.{Option}
 use Rattle.script_lang.specs.Listings.{Listing}
-use Rattle.ss_base.specs.Shelves.{Contents}
-use Rattle.ss_top.specs.declared.command.Command.{Command}
 use Rattle.ss_top.specs.declared.commands.Broken.{Broken}
 use Rattle.ss_top.specs.declared.commands.Printed.{Printed}
-use Rattle.ss_top.specs.declared.status.Which.TheVariants.{Script}
-use Rattle.ss_top.specs.CommandLine.{IsInputOf}
-use Rattle.ss_top.specs.Answers.{Answer, prints, stops}
-use Rattle.ss_top.specs.Texts.{names_in}
-use Rattle.ss_top.specs.Runs.{IfTold}
+use Rattle.ss_top.specs.declared.no_text.NoText.{NoText}
+use Rattle.ss_top.specs.declared.no_text.NoText.TheVariants as no_text
+use Rattle.ss_top.specs.declared.generate.GenFault.{GenFault}
+use Rattle.ss_top.specs.declared.generate.GenFault.TheVariants as fault
+use Rattle.script_lang.specs.declared.fault.ParseFault.{ParseFault}
+use Rattle.script_lang.specs.declared.fault.ParseFault.TheVariants as parse_fault
+use Rattle.ss_top.specs.declared.status.TextFault.TheVariants as text_fault
+use Rattle.ss_top.specs.Answers.{Answer, over_limit, prints, has_fault, stops}
 
 -- the answer of a text that may stop
 abbrev pub stopping : List ℕ → Option Broken → Answer
@@ -22,18 +23,31 @@ stopping text (Some broken) = stops text broken.line broken.refusal
 abbrev pub printed_answer : Printed → Answer
 printed_answer printed = stopping printed.text.items printed.broken
 
--- the command has a script, and where contents are told its objects have these names
-abbrev pub HasNames : Option Contents → Command → List (List ℕ) → Type 0
-HasNames contents command names =
-    IsInputOf (Some command) Script
-    × IfTold contents (λ told. names ≡ names_in (Some command) told)
+-- the result of a command that was called for this answer and left this of its last input. A read
+-- fault has a cause of its own, and want of memory has none
+abbrev pub Answers : Option Answer → Option (List ℕ) → Result Printed NoText → Type 0
+Answers answer left (Ok printed) = (answer ≡ Some (printed_answer printed)) × (left ≡ Some [])
+Answers answer left (Err (no_text.Limit hit)) = answer ≡ Some (over_limit hit)
+Answers answer left (Err (no_text.Text what)) = answer ≡ Some (has_fault what)
+Answers answer left (Err (no_text.ReadFault which)) = ⊤
+Answers answer left (Err no_text.OutOfMemory) = ⊤
 
--- what stops is a script of the command
-abbrev pub IsBrokenBy : Option Contents → Command → Option Broken → Type 0
-IsBrokenBy contents command broken =
-    IfSome broken (λ stop. HasNames contents command stop.script.names)
+-- a script that broke the partition rule, if one did, has these names of objects
+abbrev pub HasNames : Result Printed NoText → List (List ℕ) → Type 0
+HasNames result names =
+    IfOk result (λ printed. IfSome printed.broken (λ broken. broken.script.names ≡ names))
 
 -- the names of a script that may be there
 abbrev pub script_names : Option Listing → List (List ℕ)
 script_names None = []
 script_names (Some script) = script.names
+
+-- why there is no text, where documents were not generated
+abbrev pub no_text_of : GenFault → NoText
+no_text_of (fault.Limit hit) = no_text.Limit hit
+no_text_of fault.OutOfMemory = no_text.OutOfMemory
+
+-- why there is no text, where a script wasn't read
+abbrev pub no_text_for : ParseFault → NoText
+no_text_for (parse_fault.Text what) = no_text.Text (text_fault.Script what)
+no_text_for parse_fault.OutOfMemory = no_text.OutOfMemory

@@ -1,5 +1,6 @@
 -- What does a run leave?
-use Rattle.std.specs.Prelude.{◌≡◌, ℕ, List, [], ⊤, ◌⊎◌, Some, None, option_and_then}
+use Rattle.std.specs.Prelude.{◌≡◌, ◌≢◌, ℕ, ◌≤◌, Bool, true, false, List, [], length, ⊤, ◌⊎◌}
+use Rattle.std.specs.Prelude.{Some, None, option_and_then}
 use Rattle.std.specs.declared.option.Option.{Option}
 use Rattle.std.specs.Io.KnownBytes.{Appends}
 use Rattle.execution_definitions.specs.declared.refusal.Refusal.{Refusal}
@@ -9,32 +10,24 @@ use Rattle.ss_base.specs.Sinks.{GainsFront}
 use Rattle.ss_top.specs.declared.status.Status.{Status}
 use Rattle.ss_top.specs.declared.status.Status.TheVariants.{Done, Usage, ReadFault, WriteFault}
 use Rattle.ss_top.specs.declared.status.Status.TheVariants.{OutOfMemory, Limit, Refused, Text}
+use Rattle.ss_top.specs.declared.status.TextFault.{TextFault}
+use Rattle.ss_top.specs.declared.status.TextFault.TheVariants as fault
 use Rattle.ss_top.specs.declared.command.Command.{Command}
-use Rattle.ss_top.specs.declared.command.Command.TheVariants.{Gen}
-use Rattle.ss_top.specs.Answers.{Answer, over_limit, prints, has_fault, stops}
-use Rattle.ss_top.specs.Answers.{text_printed, expected_answer}
+use Rattle.ss_top.specs.declared.command.Command.TheVariants.{Script}
+use Rattle.ss_top.specs.Answers.{Answer, over_limit, prints, has_fault, stops, text_printed}
+use Rattle.ss_top.specs.Answers.{texts_held}
+use Rattle.ss_top.specs.Inputs.{inputs_for}
 use Rattle.ss_top.specs.Texts.{status_text, names_in}
 
--- what is left of a command's last input: nothing, where it has none
-abbrev pub left_of : Option Command → Option (List ℕ) → Option (List ℕ)
-left_of (Some (Gen docs words seed)) left = Some []
-left_of command left = left
+-- a text can be refused: that of a script
+abbrev pub CanBreak : Option Command → Type 0
+CanBreak (Some (Script name)) = ⊤
+CanBreak command = ⊥
 
--- a fact of contents that are told
-abbrev pub IfTold : Option Contents → (Contents → Type 0) → Type 0
-IfTold None P = ⊤
-IfTold (Some contents) P = P contents
-
--- where contents are told, they call for this answer
-abbrev pub CallsFor : Option Contents → Command → Answer → Type 0
-CallsFor contents command answer =
-    IfTold contents (λ told. expected_answer command told ≡ Some answer)
-
--- where contents are told, they call for this answer, and nothing is left of the last input
-abbrev pub CallsForWhole : Option Contents → Command → Answer → Option (List ℕ) → Type 0
-CallsForWhole contents command answer left =
-    IfTold contents (λ told.
-    (expected_answer command told ≡ Some answer) × (left_of (Some command) left ≡ Some []))
+-- a text can have this fault: only that of a script has a bad line of a script
+abbrev pub CanHave : Option Command → TextFault → Type 0
+CanHave (Some (Script name)) (fault.Script what) = ⊤
+CanHave command fault = ⊥
 
 -- out gained the text that was called for, and nothing is left of the last input
 pub record PrintsAll (answer : Option Answer) (before after left : Option (List ℕ)) : Type 0 where
@@ -59,8 +52,8 @@ pub record Stops (answer : Option Answer) (line : ℕ) (refusal : Refusal)
   pub gained : Appends before after text
   pub at_end : left ≡ Some []
 
--- what a status says of out, before and after, and of what is left of the last input, where contents
--- are told: each but those of a fault or of want of memory is the one that the contents call for
+-- what a status says of out, before and after, and of what is left of the last input: each but those
+-- of a fault or of want of memory is the one that is called for
 abbrev pub Meets :
     Option Answer → Status → Option (List ℕ) → Option (List ℕ) → Option (List ℕ) → Type 0
 Meets answer Done before after left = PrintsAll answer before after left
@@ -79,10 +72,18 @@ Completes answer status shelf_rose out_rose =
     (text : List ℕ) → answer ≡ Some (prints text)
     → (shelf_rose → ⊥) → (out_rose → ⊥) → (status ≡ Done) ⊎ (status ≡ OutOfMemory)
 
--- a stream gained a text, or a front part of it where its count of faults rose
+-- a sink that is sure of the text that is called for doesn't fail: its count stays
+abbrev pub IsWritten : Option Answer → Status → ℕ → ℕ → ℕ → Type 0
+IsWritten answer status sure faults_before faults_after =
+    (text : List ℕ) → option_and_then text_printed answer ≡ Some text
+    → length text ≤ sure → (faults_after ≡ faults_before) × (status ≢ WriteFault)
+
+-- a stream gained a text, or a front part of it where its count of faults rose. The count doesn't
+-- fall
 abbrev pub Tells : Option (List ℕ) → Option (List ℕ) → ℕ → ℕ → List ℕ → Type 0
 Tells before after faults_before faults_after text =
-    Appends before after text ⊎ (Rose faults_before faults_after × GainsFront before after text)
+    (faults_before ≤ faults_after)
+    × (Appends before after text ⊎ (Rose faults_before faults_after × GainsFront before after text))
 
 -- a stream tells a status. Objects have the names of the script, where contents are told, and else
 -- some names
@@ -93,4 +94,4 @@ TellsStatus None command status before after faults_before faults_after =
     × Tells before after faults_before faults_after (status_text command names status)
 TellsStatus (Some contents) command status before after faults_before faults_after =
     Tells before after faults_before faults_after
-    (status_text command (names_in command contents) status)
+    (status_text command (names_in command (texts_held contents (inputs_for command))) status)

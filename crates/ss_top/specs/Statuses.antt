@@ -1,4 +1,5 @@
--- With which number does the program end, and on which statuses may `out` have gained something?
+-- With which number does the program end, on which statuses may `out` have gained something, and on
+-- which were all inputs read?
 use Rattle.std.specs.Prelude.{ℕ, Bool, true, false}
 use Rattle.ss_top.specs.declared.status.Status.{Status}
 use Rattle.ss_top.specs.declared.status.Status.TheVariants.{Done, Usage, ReadFault, WriteFault}
@@ -21,3 +22,8 @@ has_written Done = true
 has_written WriteFault = true
 has_written (Refused line refusal) = true
 has_written _ = false
+
+-- every input was read: a text was written, whole or in part, or the text of an input is wrong
+abbrev pub has_read_all : Status → Bool
+has_read_all (Text fault) = true
+has_read_all status = has_written status

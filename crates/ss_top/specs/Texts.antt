@@ -1,10 +1,9 @@
 -- What is written on the error stream?
-use Rattle.std.specs.Prelude.{ℕ, List, [], ◌++◌, codes, decimal, slice_get}
+use Rattle.std.specs.Prelude.{ℕ, List, [], ◌∷◌, ◌++◌, codes, decimal, slice_get}
 use Rattle.std.specs.Prelude.{Some, None, Result, Ok, Err}
 use Rattle.std.specs.declared.option.Option.{Option}
 use Rattle.std.specs.Option.{unwrap_or}
 use Rattle.ss_base.specs.declared.ids.ObjectId.{ObjectId}
-use Rattle.ss_base.specs.Shelves.{Contents}
 use Rattle.execution_definitions.specs.declared.refusal.Refusal.{Refusal}
 use Rattle.execution_definitions.specs.declared.refusal.Refusal.TheVariants as refusal
 use Rattle.script_lang.specs.declared.fault.ScriptFault.{ScriptFault}
@@ -13,7 +12,6 @@ use Rattle.script_lang.specs.declared.fault.ScriptKind.TheVariants as kind
 use Rattle.script_lang.specs.Listings.{Listing, listing_of}
 use Rattle.ss_top.specs.declared.command.Command.{Command}
 use Rattle.ss_top.specs.declared.command.Command.TheVariants as command
-use Rattle.ss_top.specs.declared.status.Which.{Which}
 use Rattle.ss_top.specs.declared.status.Which.TheVariants.{Name}
 use Rattle.ss_top.specs.declared.status.LimitHit.{LimitHit}
 use Rattle.ss_top.specs.declared.status.LimitHit.TheVariants.{Names, Document, AllDocuments}
@@ -24,7 +22,7 @@ use Rattle.ss_top.specs.declared.status.TextFault.TheVariants.{Script}
 use Rattle.ss_top.specs.declared.status.Status.{Status}
 use Rattle.ss_top.specs.declared.status.Status.TheVariants.{Done, Usage, ReadFault, WriteFault}
 use Rattle.ss_top.specs.declared.status.Status.TheVariants.{OutOfMemory, Limit, Refused, Text}
-use Rattle.ss_top.specs.CommandLine.{input_name}
+use Rattle.ss_top.specs.Inputs.{inputs_for, name_of}
 
 unfoldable pub usage_text : List ℕ
 usage_text =
@@ -36,11 +34,6 @@ usage_text =
 unfoldable pub memory_text : List ℕ
 memory_text = codes "ssidx: out of memory\n"
 
--- the name of an input, as it was given, where the command has that input
-abbrev pub given_name : Option Command → Which → Option (List ℕ)
-given_name None which = None
-given_name (Some command) which = input_name command which
-
 unfoldable pub read_fault_text : List ℕ → List ℕ
 read_fault_text name = codes "ssidx: cannot read " ++ name ++ codes "\n"
 
@@ -51,11 +44,11 @@ unfoldable pub names_text : ℕ → List ℕ
 names_text n = codes "ssidx: limit: " ++ decimal n ++ codes " names are over 65536\n"
 
 -- a document that has no name is told without one
-unfoldable pub document_text : ℕ → Option (List ℕ) → List ℕ
-document_text i (Some name) =
+unfoldable pub document_limit_text : ℕ → Option (List ℕ) → List ℕ
+document_limit_text i (Some name) =
     codes "ssidx: limit: document " ++ decimal i ++ codes " is over 8388608 bytes: " ++ name
     ++ codes "\n"
-document_text i None =
+document_limit_text i None =
     codes "ssidx: limit: document " ++ decimal i ++ codes " is over 8388608 bytes\n"
 
 unfoldable pub all_documents_text : ℕ → List ℕ
@@ -77,7 +70,7 @@ schedule_bytes_text = codes "ssidx: limit: schedule is over 1048576 bytes\n"
 -- the text of a limit that a command passed
 abbrev pub limit_text : Option Command → LimitHit → List ℕ
 limit_text command (Names n) = names_text n
-limit_text command (Document i) = document_text i (given_name command (Name i))
+limit_text command (Document i) = document_limit_text i (name_of (inputs_for command) (Name i))
 limit_text command (AllDocuments i) = all_documents_text i
 limit_text command StopBytes = stop_bytes_text
 limit_text command ScriptBytes = script_bytes_text
@@ -140,7 +133,7 @@ abbrev pub status_text : Option Command → List (List ℕ) → Status → List 
 status_text command names Done = []
 status_text command names Usage = usage_text
 status_text command names (ReadFault which) =
-    read_fault_text (unwrap_or (given_name command which) [])
+    read_fault_text (unwrap_or (name_of (inputs_for command) which) [])
 status_text command names WriteFault = write_fault_text
 status_text command names OutOfMemory = memory_text
 status_text command names (Limit hit) = limit_text command hit
@@ -152,12 +145,7 @@ abbrev pub names_listed : Result Listing ScriptFault → List (List ℕ)
 names_listed (Ok listing) = listing.names
 names_listed (Err fault) = []
 
--- those of a script that may be there
-abbrev pub names_of : Option (List ℕ) → List (List ℕ)
-names_of (Some script) = names_listed (listing_of script)
-names_of None = []
-
--- those of a command's script
-abbrev pub names_in : Option Command → Contents → List (List ℕ)
-names_in (Some (command.Script name)) contents = names_of (contents name)
-names_in _ contents = []
+-- those of a command's script, by the texts of the command's inputs
+abbrev pub names_in : Option Command → List (List ℕ) → List (List ℕ)
+names_in (Some (command.Script name)) (script ∷ []) = names_listed (listing_of script)
+names_in command texts = []

@@ -100,7 +100,7 @@ fn texts_of(alloc: Global, words: &[String]) -> Result<Texts, OutOfMemory>
 }
 
 // A text of a word that may be there.
-fn text_of(alloc: Global, word: Option<&str>) -> Result<Option<Text>, OutOfMemory>
+fn word_text(alloc: Global, word: Option<&str>) -> Result<Option<Text>, OutOfMemory>
     ensures { IfOk result (λ text. text ≡ option_copied word.entry) }
 {
     match word {
@@ -122,7 +122,7 @@ fn index_command(alloc: Global, words: &[String]) -> Result<Command, WordsFault>
         return Err(WordsFault::Usage);
     }
     Ok(Command::Index {
-        stop: text_of(alloc, stop)?,
+        stop: word_text(alloc, stop)?,
         names: texts_of(alloc, names)?,
     })
 }
@@ -193,7 +193,7 @@ fn gen_command(words: &[String]) -> Option<Command>
     })
 }
 
-/// The command that the words after the program's name are.
+/// The command that the words after the program's name are, as the definition `outcome` says.
 pub fn command_of(alloc: Global, words: &[String]) -> Result<Command, WordsFault>
     ensures ok { IfOk result (λ command. outcome (map string_bytes words.now) ≡ Some command) }
     ensures usage { (result ≡ Err WordsFault.Usage)

@@ -1,24 +1,30 @@
-// What each command prints. A command reads its inputs and gives a text, and writes nothing.
-ghost use Rattle.std.specs.Prelude.{◌≡◌, ◌≢◌, ◌≤◌, vec_len, IfOk, Some, None};
-ghost use Rattle.ss_base.specs.Faults.{Rose};
-ghost use Rattle.ss_base.specs.Shelves.{ReadsWhole};
-ghost use Rattle.ss_top.specs.Answers.{over_limit, has_fault};
-ghost use Rattle.ss_top.specs.CommandLine.{CanBeAsked, IsInputOf};
-ghost use Rattle.ss_top.specs.Printings.{printed_answer, IsBrokenBy};
-ghost use Rattle.ss_top.specs.Readings.{IsLonger};
-ghost use Rattle.ss_top.specs.Runs.{CallsFor, CallsForWhole};
-ghost use Rattle.ss_top.specs.declared.commands.Stop.TheVariants as stop;
+// What each command prints. A command gives a text made of the texts of its inputs: it reads nothing
+// and writes nothing.
+ghost use Rattle.std.specs.Prelude.{◌≡◌, ◌≢◌, ◌+◌, ◌<◌, ◌≤◌, [], None, Some, map, length};
+ghost use Rattle.std.specs.Prelude.{IfOk, IfSome, OnSome, MatchOption};
+ghost use Rattle.ss_base.specs.declared.limits.TheConstants as limits;
+ghost use Rattle.ss_top.specs.Answers.{answer_after, first_passed, limit_asked, texts_held};
+ghost use Rattle.ss_top.specs.CommandLine.{CanBeAsked};
+ghost use Rattle.ss_top.specs.Inputs.{inputs_of};
+ghost use Rattle.ss_top.specs.Printings.{Answers, HasNames};
+ghost use Rattle.ss_top.specs.Readings.{Asks, AsksInOrder, FailsAt, IfCalledFor, IfTold, IsLimitOf};
+ghost use Rattle.ss_top.specs.Readings.{left_of};
+ghost use Rattle.ss_top.specs.Runs.{CanBreak, CanHave};
+ghost use Rattle.ss_top.specs.Texts.{names_in};
 
 mod generated;
 mod index;
 mod indexing;
 mod script;
 
-use crate::{Command, GenFault, LimitHit, TextFault, Which};
+use crate::inputs::read_inputs;
+use crate::no_text::NoText;
+use crate::{Command, LimitHit, TextFault, Which};
 use execution_definitions::Refusal;
 use script_lang::Script;
-use ss_base::{OutOfMemory, ReadStop, Shelf, read_all};
-use std::alloc::{AllocError, AllocFailed, Global};
+use ss_base::Shelf;
+use ss_base::limits::NAMES;
+use std::alloc::Global;
 use std::sync::Wait;
 use std::thread::Threads;
 
@@ -37,82 +43,74 @@ pub(crate) struct Broken {
     pub script: Script,
 }
 
-/// Why a command has no text.
-#[derive(Clone, Copy, Debug, PartialEq, Eq)]
-pub(crate) enum Stop {
-    /// The shelf failed at this input.
-    ReadFault(Which),
-    /// A limit was passed.
-    Limit(LimitHit),
-    /// The text of an input is wrong.
-    Text(TextFault),
-    /// There was no memory.
-    OutOfMemory,
-}
-
-impl From<OutOfMemory> for Stop {
-    ghost from_gives = { λ _ given. given ≡ stop.OutOfMemory };
-
-    fn from(_: OutOfMemory) -> Self {
-        Stop::OutOfMemory
-    }
-}
-
-impl From<AllocError> for Stop {
-    ghost from_gives = { λ _ given. given ≡ stop.OutOfMemory };
-
-    fn from(_: AllocError) -> Self {
-        Stop::OutOfMemory
-    }
-}
-
-impl<T: Drop> From<AllocFailed<T>> for Stop {
-    ghost from_gives = { λ _ given. given ≡ stop.OutOfMemory };
-
-    fn from(_: AllocFailed<T>) -> Self {
-        Stop::OutOfMemory
-    }
-}
-
-impl From<GenFault> for Stop {
-    ghost use Rattle.ss_top.specs.Readings.{stop_of};
-
-    ghost from_gives = { λ fault given. given ≡ stop_of fault };
-
-    fn from(fault: GenFault) -> Self {
-        match fault {
-            GenFault::Limit(hit) => Stop::Limit(hit),
-            GenFault::OutOfMemory => Stop::OutOfMemory,
-        }
-    }
-}
-
-/// The bytes of an input. One of more than `most` bytes passes the limit `hit`.
-fn read_input<L: Shelf>(
-    alloc: Global,
-    shelf: &mut L,
-    name: &str,
-    most: usize,
-    which: Which,
-    hit: LimitHit,
-) -> Result<Vec<u8>, Stop>
-    requires { most ≤ 8388608 }
-    ensures never_falls { L.faults shelf.old ≤ L.faults shelf.new }
-    ensures contents { L.contents shelf.new ≡ L.contents shelf.old }
-    ensures within { IfOk result (λ bytes. vec_len bytes ≤ most) }
-    ensures whole { IfOk result (λ bytes.
-        ReadsWhole (L.contents shelf.old) name.now (L.left shelf.new) bytes.items) }
-    ensures read_fault { (failed : Which) → result ≡ Err (Stop.ReadFault failed) →
-        (failed ≡ which) × Rose (L.faults shelf.old) (L.faults shelf.new) }
-    ensures limit { (passed : LimitHit) → result ≡ Err (Stop.Limit passed) →
-        (passed ≡ hit) × IsLonger (L.contents shelf.old) name.now most }
-    ensures text { (fault : TextFault) → result ≢ Err (Stop.Text fault) }
+// A text that is printed whole.
+fn whole(text: Vec<u8>) -> Printed
+    ensures text { result.text ≡ text }
+    ensures broken { result.broken ≡ None }
 {
-    match read_all(alloc, shelf, name, most) {
-        Ok(bytes) => Ok(bytes),
-        Err(ReadStop::Failed) => Err(Stop::ReadFault(which)),
-        Err(ReadStop::TooLong) => Err(Stop::Limit(hit)),
-        Err(ReadStop::OutOfMemory) => Err(Stop::OutOfMemory),
+    Printed { text, broken: None }
+}
+
+// The limit of names, where a command asks for more.
+fn names_over(command: &Command) -> Option<LimitHit>
+    ensures { MatchOption result
+        ((length (inputs_of command.now) ≤ limits.NAMES + 1)
+        × (0 < length (inputs_of command.now) → limit_asked command.now ≡ None))
+        (λ hit. limit_asked command.now ≡ Some hit) }
+{
+    match command {
+        Command::Index { names, .. } => {
+            let count = names.as_slice().len();
+            if count > NAMES {
+                Some(LimitHit::Names(count as u64))
+            } else {
+                None
+            }
+        }
+        _ => None,
+    }
+}
+
+// The text that a command prints, by the texts of its inputs, which pass no limit.
+fn text_by<R>(
+    rt: &R,
+    alloc: Global,
+    command: &Command,
+    mut texts: Vec<Vec<u8>>,
+) -> Result<Printed, NoText>
+where
+    R: Threads + Wait + Copy + Send + Sync + 'static,
+    requires can { CanBeAsked command.now }
+    requires count { length texts.items ≡ length (inputs_of command.now) }
+    requires asked { 0 < length (inputs_of command.now) → limit_asked command.now ≡ None }
+    requires within { first_passed 0 (inputs_of command.now)
+        (map (λ text. text.items) texts.items) ≡ None }
+    ensures answers { Answers
+        (answer_after (Some command.now) (map (λ text. text.items) texts.items)) (Some []) result }
+    ensures names { HasNames result
+        (names_in (Some command.now) (map (λ text. text.items) texts.items)) }
+    ensures breaks { IfOk result (λ printed. OnSome printed.broken (CanBreak (Some command.now))) }
+    ensures read_fault { (which : Which) → result ≢ Err (NoText.ReadFault which) }
+    ensures limit { (hit : LimitHit) → result ≡ Err (NoText.Limit hit) →
+        limit_asked command.now ≡ Some hit }
+    ensures text { (fault : TextFault) → result ≡ Err (NoText.Text fault) →
+        CanHave (Some command.now) fault }
+{
+    match command {
+        Command::Index { stop, .. } => match stop {
+            None => {
+                let stop = Vec::new(alloc);
+                Ok(whole(index::index_text(rt, alloc, stop, texts)?))
+            }
+            Some(_) => {
+                let stop = texts.remove(0);
+                Ok(whole(index::index_text(rt, alloc, stop, texts)?))
+            }
+        },
+        Command::Script { .. } => Ok(script::script_text(rt, alloc, &texts[0])?),
+        Command::Gen { docs, words, seed } => Ok(whole(generated::summary_text(
+            rt, alloc, *docs, *words, *seed,
+        )?)),
     }
 }
 
@@ -122,28 +120,28 @@ pub(crate) fn text_of<R, L: Shelf>(
     alloc: Global,
     shelf: &mut L,
     command: &Command,
-) -> Result<Printed, Stop>
+) -> Result<Printed, NoText>
 where
     R: Threads + Wait + Copy + Send + Sync + 'static,
     requires { CanBeAsked command.now }
-    ensures never_falls { L.faults shelf.old ≤ L.faults shelf.new }
-    ensures ok { IfOk result (λ printed. CallsForWhole (L.contents shelf.old) command.now
-        (printed_answer printed) (L.left shelf.new)) }
-    ensures broken { IfOk result (λ printed.
-        IsBrokenBy (L.contents shelf.old) command.now printed.broken) }
-    ensures read_fault { (which : Which) → result ≡ Err (Stop.ReadFault which) →
-        IsInputOf (Some command.now) which × Rose (L.faults shelf.old) (L.faults shelf.new) }
-    ensures limit { (hit : LimitHit) → result ≡ Err (Stop.Limit hit) →
-        CallsFor (L.contents shelf.old) command.now (over_limit hit) }
-    ensures text { (fault : TextFault) → result ≡ Err (Stop.Text fault) →
-        IsInputOf (Some command.now) Which.Script
-        × CallsFor (L.contents shelf.old) command.now (has_fault fault) }
+    ensures asks { AsksInOrder L.Shelf shelf.old shelf.new (Some command.now) }
+    ensures whole { IfOk result (λ _. Asks L.Shelf shelf.old shelf.new (inputs_of command.now)) }
+    ensures answers { IfCalledFor (L.contents shelf.old) (Some command.now) (λ answer.
+        Answers answer (left_of (inputs_of command.now) (L.left shelf.new)) result) }
+    ensures names { IfTold (L.contents shelf.old) (λ told. HasNames result
+        (names_in (Some command.now) (texts_held told (inputs_of command.now)))) }
+    ensures breaks { IfOk result (λ printed. OnSome printed.broken (CanBreak (Some command.now))) }
+    ensures read_fault { (which : Which) → result ≡ Err (NoText.ReadFault which) →
+        FailsAt L.Shelf shelf.old shelf.new (Some command.now) which }
+    ensures limit { (hit : LimitHit) → result ≡ Err (NoText.Limit hit) →
+        IsLimitOf (Some command.now) hit }
+    ensures text { (fault : TextFault) → result ≡ Err (NoText.Text fault) →
+        CanHave (Some command.now) fault
+        × Asks L.Shelf shelf.old shelf.new (inputs_of command.now) }
 {
-    match command {
-        Command::Index { stop, names } => index::index_text(rt, alloc, shelf, stop, names),
-        Command::Script { name } => script::script_text(rt, alloc, shelf, name.as_str()),
-        Command::Gen { docs, words, seed } => {
-            generated::summary_text(rt, alloc, *docs, *words, *seed)
-        }
+    if let Some(hit) = names_over(command) {
+        return Err(NoText::Limit(hit));
     }
+    let texts = read_inputs(alloc, shelf, command)?;
+    text_by(rt, alloc, command, texts)
 }

@@ -3,13 +3,14 @@ ghost use Rattle.std.specs.Prelude.{◌≡◌, ◌+◌, ◌^◌, ◌<◌, ◌≤
 ghost use Rattle.std.specs.Prelude.{vec_len, IfOk, OnOk, MatchBool, MatchOption};
 ghost use Rattle.ss_top.specs.Generated.{state_after, state_at, generated_word, generated_document};
 ghost use Rattle.ss_top.specs.Generated.{generated_documents, generated_limit};
-ghost use Rattle.ss_top.specs.Limits.{names_limit};
+ghost use Rattle.ss_base.specs.declared.limits.TheConstants as limits;
 ghost use Rattle.ss_top.specs.declared.generate.GenFault.TheVariants as fault;
 
 use crate::LimitHit;
-use crate::limits::{ALL_DOCUMENTS_LIMIT, DOCUMENT_LIMIT, NAMES_LIMIT, limit_at};
+use crate::limits::limit_with;
 use itoa::Buffer;
 use ss_base::OutOfMemory;
+use ss_base::limits::{ALL_DOCUMENT_BYTES, DOCUMENT_BYTES, NAMES};
 use std::alloc::{AllocError, AllocFailed, Global};
 
 /// Why documents weren't generated.
@@ -114,7 +115,7 @@ pub fn gen_documents(
     requires docs { 1 ≤ docs }
     requires seed { seed < 2 ^ 31 }
     // Too many documents are refused before any is made, so that no memory is asked for.
-    ensures names { names_limit < docs → result ≡ Err (GenFault.Limit (LimitHit.Names docs)) }
+    ensures names { limits.NAMES < docs → result ≡ Err (GenFault.Limit (LimitHit.Names docs)) }
 
     ensures documents { IfOk result (λ made.
         map (λ document. document.items) made.items ≡ generated_documents docs words seed) }
@@ -122,16 +123,16 @@ pub fn gen_documents(
     ensures limit { (hit : LimitHit) → result ≡ Err (GenFault.Limit hit) →
         generated_limit docs words seed ≡ Some hit }
 {
-    if docs > NAMES_LIMIT {
+    if docs as usize > NAMES {
         return Err(GenFault::Limit(LimitHit::Names(u64::from(docs))));
     }
     let mut documents = Vec::with_capacity(alloc, docs as usize)?;
     let mut state = seed;
-    let mut left = ALL_DOCUMENTS_LIMIT;
+    let mut left = ALL_DOCUMENT_BYTES;
     for before in 0..docs {
-        let most = left.min(DOCUMENT_LIMIT);
+        let most = left.min(DOCUMENT_BYTES);
         let Some(document) = gen_document(alloc, words, most, &mut state)? else {
-            return Err(GenFault::Limit(limit_at(before + 1, left)));
+            return Err(GenFault::Limit(limit_with(before + 1, left)));
         };
         left -= document.len();
         documents.push(document)?;

@@ -4,7 +4,10 @@
 mod command;
 mod commands;
 mod generate;
+mod inputs;
 mod limits;
+mod no_text;
+mod reading;
 mod status;
 mod tell;
 mod top;
@@ -14,6 +17,3 @@ pub use generate::{GenFault, gen_documents};
 pub use status::{LimitHit, Status, TextFault, Which};
 pub use tell::{tell_memory, tell_usage};
 pub use top::run;
-
-#[cfg(test)]
-mod tests;

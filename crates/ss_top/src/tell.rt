@@ -4,20 +4,21 @@ ghost use Rattle.std.specs.List.{flat_map};
 ghost use Rattle.std.specs.Option.{option_copied};
 ghost use Rattle.ss_base.specs.Faults.{HasCause};
 ghost use Rattle.ss_base.specs.Sinks.{GainsAll};
-ghost use Rattle.ss_top.specs.CommandLine.{name_at};
+ghost use Rattle.ss_top.specs.Inputs.{documents_from, inputs_of, name_of};
 ghost use Rattle.ss_top.specs.Runs.{Tells};
-ghost use Rattle.ss_top.specs.Texts.{given_name, status_text, limit_text, usage_text};
-ghost use Rattle.ss_top.specs.Texts.{memory_text, read_fault_text, document_text};
+ghost use Rattle.ss_top.specs.Texts.{status_text, limit_text, usage_text};
+ghost use Rattle.ss_top.specs.Texts.{memory_text, read_fault_text, document_limit_text};
 ghost use Rattle.ss_top.specs.Texts.{line_text, kind_text, fault_text, object_name, object_text};
 ghost use Rattle.ss_top.specs.Texts.{two_sets_text, private_text, refusal_text};
 ghost use Rattle.ss_top.specs.Printings.{script_names};
+ghost use Rattle.ss_top.specs.declared.command.Command.TheVariants as command;
 
 use crate::status::Ended;
 use crate::{Command, LimitHit, Status, TextFault, Which};
 use execution_definitions::Refusal;
 use itoa::Buffer;
 use script_lang::{Script, ScriptKind};
-use ss_base::{Failed, ObjectId, SetId, Sink, Texts, write_all};
+use ss_base::{Failed, ObjectId, SetId, Sink, Text, Texts, write_all};
 
 const USAGE: &[u8] =
     b"usage: ssidx index [--delegates N] [--mode lanes|batch] [--ring N] [--stop FILE] NAME...
@@ -69,21 +70,39 @@ pub fn tell_memory<E: Sink>(err: &mut E)
 
 // The name with this number, counted from 1.
 fn name_at(names: &Texts, number: u32) -> Option<&str>
-    ensures { option_copied result ≡ name_at names.now number }
+    ensures { option_copied result
+        ≡ name_of (documents_from 1 names.now) (Which.Name number) }
 {
     let place = (number as usize).checked_sub(1)?;
     Some(names.as_slice().get(place)?.as_str())
 }
 
+// The name of an input of `index`, as it was given.
+fn index_name<'a>(stop: &'a Option<Text>, names: &'a Texts, which: Which) -> Option<&'a str>
+    ensures { option_copied result
+        ≡ name_of (inputs_of (command.Index stop.now names.now)) which }
+{
+    match which {
+        Which::Stop => Some(stop.as_ref()?.as_str()),
+        Which::Name(number) => name_at(names, number),
+        Which::Script => None,
+        Which::Schedule => None,
+    }
+}
+
 // The name of an input, as it was given, where the command has that input.
 fn given_name(command: &Command, which: Which) -> Option<&str>
-    ensures { option_copied result ≡ given_name (Some command.now) which }
+    ensures { option_copied result ≡ name_of (inputs_of command.now) which }
 {
-    match (command, which) {
-        (Command::Index { stop, .. }, Which::Stop) => Some(stop.as_ref()?.as_str()),
-        (Command::Index { names, .. }, Which::Name(number)) => name_at(names, number),
-        (Command::Script { name }, Which::Script) => Some(name.as_str()),
-        _ => None,
+    match command {
+        Command::Index { stop, names } => index_name(stop, names, which),
+        Command::Script { name } => match which {
+            Which::Script => Some(name.as_str()),
+            Which::Stop => None,
+            Which::Name(_) => None,
+            Which::Schedule => None,
+        },
+        Command::Gen { .. } => None,
     }
 }
 
@@ -98,7 +117,7 @@ fn tell_read_fault<E: Sink>(err: &mut E, name: &str)
 // Writes which document is too long. A generated one has no name.
 fn tell_document<E: Sink>(err: &mut E, document: u32, name: Option<&str>)
     ensures { Tells (E.gained err.old) (E.gained err.new) (E.faults err.old) (E.faults err.new)
-        (document_text document (option_copied name.entry)) }
+        (document_limit_text document (option_copied name.entry)) }
 {
     match name {
         Some(name) => tell_named_document(err, document, name),
@@ -114,7 +133,7 @@ fn tell_document<E: Sink>(err: &mut E, document: u32, name: Option<&str>)
 // Writes which document under this name is too long.
 fn tell_named_document<E: Sink>(err: &mut E, document: u32, name: &str)
     ensures { Tells (E.gained err.old) (E.gained err.new) (E.faults err.old) (E.faults err.new)
-        (document_text document (Some name.now)) }
+        (document_limit_text document (Some name.now)) }
 {
     let mut buffer = Buffer::new();
     let number = buffer.format(document).as_bytes();

@@ -1,11 +1,11 @@
 // `gen`: a summary of the index of generated documents.
-ghost use Rattle.std.specs.Prelude.{◌≡◌, ◌≢◌, ◌≤◌, ◌<◌, ◌^◌, None, Some, IfOk};
-ghost use Rattle.ss_top.specs.Answers.{over_limit, gen_answer};
-ghost use Rattle.ss_top.specs.Printings.{printed_answer};
+ghost use Rattle.std.specs.Prelude.{◌≡◌, ◌≤◌, ◌<◌, ◌^◌, [], None, Some, IfOk};
+ghost use Rattle.index_definitions.specs.Index.{index};
+ghost use Rattle.index_definitions.specs.IndexText.{summary_of_index};
+ghost use Rattle.ss_top.specs.Generated.{generated_documents, generated_limit};
 
-use crate::commands::indexing::index_of;
-use crate::commands::{Printed, Stop};
-use crate::{LimitHit, TextFault, Which, gen_documents};
+use crate::commands::indexing::index_documents;
+use crate::{GenFault, LimitHit, gen_documents};
 use doc_words::StopSet;
 use report::print_summary;
 use std::alloc::Global;
@@ -19,21 +19,18 @@ pub(crate) fn summary_text<R>(
     docs: u32,
     words: u32,
     seed: u32,
-) -> Result<Printed, Stop>
+) -> Result<Vec<u8>, GenFault>
 where
     R: Threads + Wait + Copy + Send + Sync + 'static,
     requires docs { 1 ≤ docs }
     requires seed { seed < 2 ^ 31 }
-    ensures ok { IfOk result (λ printed.
-        gen_answer docs words seed ≡ Some (printed_answer printed)) }
-    ensures whole { IfOk result (λ printed. printed.broken ≡ None) }
-    ensures limit { (hit : LimitHit) → result ≡ Err (Stop.Limit hit) →
-        gen_answer docs words seed ≡ Some (over_limit hit) }
-    ensures read_fault { (which : Which) → result ≢ Err (Stop.ReadFault which) }
-    ensures text { (fault : TextFault) → result ≢ Err (Stop.Text fault) }
+    ensures within { IfOk result (λ _. generated_limit docs words seed ≡ None) }
+    ensures text { IfOk result (λ text. text.items
+        ≡ summary_of_index (index (generated_documents docs words seed) [])) }
+    ensures limit { (hit : LimitHit) → result ≡ Err (GenFault.Limit hit) →
+        generated_limit docs words seed ≡ Some hit }
 {
     let documents = gen_documents(alloc, docs, words, seed)?;
-    let index = index_of(rt, alloc, documents, StopSet::empty(alloc))?;
-    let text = print_summary(alloc, &index)?;
-    Ok(Printed { text, broken: None })
+    let index = index_documents(rt, alloc, documents, StopSet::empty(alloc))?;
+    Ok(print_summary(alloc, &index)?)
 }

@@ -3,7 +3,8 @@ ghost use Rattle.std.specs.Prelude.{◌≡◌, ◌≤◌, ℕ, List, None, map, 
 ghost use Rattle.index_definitions.specs.Words.{terms_in};
 ghost use Rattle.index_definitions.specs.Terms.{HaveSameTerms};
 ghost use Rattle.index_definitions.specs.Index.{index};
-ghost use Rattle.ss_top.specs.Limits.{names_limit, first_limit};
+ghost use Rattle.ss_base.specs.declared.limits.TheConstants as limits;
+ghost use Rattle.ss_top.specs.Limits.{first_limit};
 
 use delegation::{Delegation, Plain};
 use doc_words::StopSet;
@@ -14,7 +15,7 @@ use std::sync::Wait;
 use std::thread::Threads;
 
 /// The index of documents that pass no limit, without the stopped terms.
-pub(crate) fn index_of<R>(
+pub(crate) fn index_documents<R>(
     rt: &R,
     alloc: Global,
     documents: Vec<Vec<u8>>,
@@ -22,7 +23,7 @@ pub(crate) fn index_of<R>(
 ) -> Result<Index, OutOfMemory>
 where
     R: Threads + Wait + Copy + Send + Sync + 'static,
-    requires few { length documents.items ≤ names_limit }
+    requires few { length documents.items ≤ limits.NAMES }
     requires within { first_limit (map (λ document. document.items) documents.items) ≡ None }
     ensures { IfOk result (λ made. (list : List ℕ) → HaveSameTerms stop (terms_in list) →
         made ≡ index (map (λ document. document.items) documents.items) list) }

@@ -1,67 +1,21 @@
 // `script`: what a script shows.
-ghost use Rattle.std.specs.Prelude.{◌≡◌, ◌≢◌, ◌≤◌, ◌<◌, length, vec_len, IfOk, IfSome};
-ghost use Rattle.script_lang.specs.Lines.{is_line_end, lines};
-ghost use Rattle.script_lang.specs.ScriptAnswers.{shown_of};
-ghost use Rattle.ss_base.specs.Faults.{Rose};
-ghost use Rattle.ss_base.specs.Shelves.{ReadsWhole};
-ghost use Rattle.ss_top.specs.Answers.{over_limit, has_fault};
+ghost use Rattle.std.specs.Prelude.{◌≡◌, ◌≤◌, length, IfOk, IfSome};
+ghost use Rattle.script_lang.specs.Listings.{listing_of};
+ghost use Rattle.script_lang.specs.ScriptAnswers.{script_answer, shown_of};
+ghost use Rattle.script_lang.specs.declared.fault.ScriptFault.{ScriptFault};
+ghost use Rattle.ss_base.specs.declared.limits.TheConstants as limits;
+ghost use Rattle.ss_top.specs.Answers.{shown_answer};
 ghost use Rattle.ss_top.specs.Answers as answers;
-ghost use Rattle.ss_top.specs.CommandLine.{IsInputOf};
-ghost use Rattle.ss_top.specs.Printings.{printed_answer, IsBrokenBy};
-ghost use Rattle.ss_top.specs.Runs.{CallsFor, CallsForWhole};
-ghost use Rattle.ss_top.specs.declared.command.Command.TheVariants as command;
+ghost use Rattle.ss_top.specs.Printings.{printed_answer};
+ghost use Rattle.ss_top.specs.Texts.{names_listed};
 
-use crate::commands::{Broken, Printed, Stop, read_input};
-use crate::limits::{SCRIPT_BYTES_LIMIT, SCRIPT_LINES_LIMIT};
-use crate::{LimitHit, TextFault, Which};
+use crate::commands::{Broken, Printed};
 use delegation::{Delegation, Plain};
 use script_lang::{ParseFault, Script, Shown, parse, run_script};
-use ss_base::{OutOfMemory, Shelf};
+use ss_base::OutOfMemory;
 use std::alloc::Global;
 use std::sync::Wait;
 use std::thread::Threads;
-
-fn is_line_end(byte: u8) -> bool
-    ensures { result ≡ is_line_end byte }
-{
-    byte == b'\n'
-}
-
-// How many lines a script has.
-fn line_count(script: &[u8]) -> usize
-    requires { length script.now ≤ 1048576 }
-    ensures { result ≡ length (lines script.now) }
-{
-    let mut count = 0;
-    let mut is_between = true;
-    for byte in script {
-        count += usize::from(is_between);
-        is_between = is_line_end(*byte);
-    }
-    count
-}
-
-// The bytes of the script under this name.
-fn read_script<L: Shelf>(alloc: Global, shelf: &mut L, name: &str) -> Result<Vec<u8>, Stop>
-    ensures never_falls { L.faults shelf.old ≤ L.faults shelf.new }
-    ensures bytes { IfOk result (λ script. vec_len script ≤ 1048576) }
-    ensures lines { IfOk result (λ script. length (lines script.items) ≤ 65536) }
-    ensures whole { IfOk result (λ script.
-        ReadsWhole (L.contents shelf.old) name.now (L.left shelf.new) script.items) }
-    ensures read_fault { (which : Which) → result ≡ Err (Stop.ReadFault which) →
-        IsInputOf (Some (command.Script name.now)) which
-        × Rose (L.faults shelf.old) (L.faults shelf.new) }
-    ensures limit { (hit : LimitHit) → result ≡ Err (Stop.Limit hit) →
-        CallsFor (L.contents shelf.old) (command.Script name.now) (over_limit hit) }
-    ensures text { (fault : TextFault) → result ≢ Err (Stop.Text fault) }
-{
-    let hit = LimitHit::ScriptBytes;
-    let script = read_input(alloc, shelf, name, SCRIPT_BYTES_LIMIT, Which::Script, hit)?;
-    if line_count(&script) > SCRIPT_LINES_LIMIT {
-        return Err(Stop::Limit(LimitHit::ScriptLines));
-    }
-    Ok(script)
-}
 
 // What was shown, of a script that may have stopped.
 fn printed(shown: Shown, script: Script) -> Printed
@@ -95,32 +49,18 @@ where
     Ok(printed(shown?, script))
 }
 
-/// What the script under this name shows.
-pub(crate) fn script_text<R, L: Shelf>(
-    rt: &R,
-    alloc: Global,
-    shelf: &mut L,
-    name: &str,
-) -> Result<Printed, Stop>
+/// What a script shows.
+pub(crate) fn script_text<R>(rt: &R, alloc: Global, script: &[u8]) -> Result<Printed, ParseFault>
 where
     R: Threads + Wait + Copy + Send + Sync + 'static,
-    ensures never_falls { L.faults shelf.old ≤ L.faults shelf.new }
-    ensures ok { IfOk result (λ printed. CallsForWhole (L.contents shelf.old)
-        (command.Script name.now) (printed_answer printed) (L.left shelf.new)) }
-    ensures broken { IfOk result (λ printed.
-        IsBrokenBy (L.contents shelf.old) (command.Script name.now) printed.broken) }
-    ensures read_fault { (which : Which) → result ≡ Err (Stop.ReadFault which) →
-        IsInputOf (Some (command.Script name.now)) which
-        × Rose (L.faults shelf.old) (L.faults shelf.new) }
-    ensures limit { (hit : LimitHit) → result ≡ Err (Stop.Limit hit) →
-        CallsFor (L.contents shelf.old) (command.Script name.now) (over_limit hit) }
-    ensures text { (fault : TextFault) → result ≡ Err (Stop.Text fault) →
-        CallsFor (L.contents shelf.old) (command.Script name.now) (has_fault fault) }
+    requires { length script.now ≤ limits.SCRIPT_BYTES }
+    ensures answer { IfOk result (λ printed.
+        shown_answer (script_answer script.now) ≡ printed_answer printed) }
+    ensures names { IfOk result (λ printed. IfSome printed.broken
+        (λ broken. broken.script.names ≡ names_listed (listing_of script.now))) }
+    ensures fault { (fault : ScriptFault) → result ≡ Err (ParseFault.Text fault) →
+        script_answer script.now ≡ Err fault }
 {
-    let bytes = read_script(alloc, shelf, name)?;
-    match parse(alloc, &bytes) {
-        Ok(script) => Ok(show(rt, alloc, script)?),
-        Err(ParseFault::Text(fault)) => Err(Stop::Text(TextFault::Script(fault))),
-        Err(ParseFault::OutOfMemory) => Err(Stop::OutOfMemory),
-    }
+    let script = parse(alloc, script)?;
+    Ok(show(rt, alloc, script)?)
 }

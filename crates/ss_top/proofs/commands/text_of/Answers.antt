@@ -1,19 +1,40 @@
-use Rattle.std.proofs.Common.{◌≡◌, subst}
-use Rattle.std.specs.Prelude.{Some}
-use Rattle.ss_top.specs.CommandLine.{IsInputOf}
-use Rattle.ss_top.specs.declared.command.Command.TheVariants.{Index, Script}
+use Rattle.std.proofs.Common.{◌≡◌, ◌∙◌, Err, Some, ap, sym, subst, map}
+use Rattle.std.proofs.lemmas.List.{length-map}
+use Rattle.std.proofs.lemmas.Result.{err_from_is_err_and}
+use Rattle.ss_top.specs.declared.no_text.NoText.TheVariants.{ReadFault, Limit, Text}
+use Rattle.ss_top.specs.Inputs.{inputs_of}
+use Rattle.ss_top.specs.Printings.{Answers}
+use Rattle.ss_top.specs.Readings.{IfCalledFor, left_of}
+use Rattle.ss_top.proofs.RunsLemmas.{Answers-failed, Answers-read}
 use Rattle.ss_top.proofs.commands.text_of.Goals as goal
 
-pub returns-in-Index-clause-read_fault : goal.returns-in-Index-clause-read_fault
-returns-in-Index-clause-read_fault g c =
-    λ which e.
-    let cause = c.index_text.ensures.read_fault which e in
-    let same : Index c.in-Index.stop c.in-Index.names ≡ c.args.command.now = cc in
-    (subst (λ command. IsInputOf (Some command) which) same cause.0, cause.1)
+pub returns-in_err-texts-clause-answers : goal.returns-in_err-texts-clause-answers
+returns-in_err-texts-clause-answers g c =
+    let given = err_from_is_err_and c.from_residual.result c.from_residual.ensures.1 in
+    subst (λ result. IfCalledFor (g.L.Shelf.contents c.args.shelf.now) (Some c.args.command.now)
+    (λ answer. Answers answer
+    (left_of (inputs_of c.args.command.now) (g.L.Shelf.left c.read_inputs.new.shelf)) result))
+    (sym given.1)
+    (Answers-failed (g.L.Shelf.contents c.args.shelf.now) (Some c.args.command.now)
+    (left_of (inputs_of c.args.command.now) (g.L.Shelf.left c.read_inputs.new.shelf)) given.0
+    (λ hit is.
+    let same : c.in_err-texts.field-0.0 ≡ Limit hit = cc in
+    (c.read_inputs.ensures.limit hit (c.in_err-texts.was ∙ ap Err same)).1)
+    (λ what is.
+    let same : c.in_err-texts.field-0.0 ≡ Text what = cc in
+    c.read_inputs.ensures.text what (c.in_err-texts.was ∙ ap Err same)))
 
-pub returns-in-Script-clause-read_fault : goal.returns-in-Script-clause-read_fault
-returns-in-Script-clause-read_fault g c =
+pub returns-in_err-texts-clause-read_fault : goal.returns-in_err-texts-clause-read_fault
+returns-in_err-texts-clause-read_fault g c =
     λ which e.
-    let cause = c.script_text.ensures.read_fault which e in
-    let same : Script c.as_str.result.now ≡ c.args.command.now = cc in
-    (subst (λ command. IsInputOf (Some command) which) same cause.0, cause.1)
+    let given = err_from_is_err_and c.from_residual.result c.from_residual.ensures.1 in
+    let same : c.in_err-texts.field-0.0 ≡ ReadFault which = cc in
+    c.read_inputs.ensures.read_fault which (c.in_err-texts.was ∙ ap Err same)
+
+pub returns-clause-answers : goal.returns-clause-answers
+returns-clause-answers g c =
+    Answers-read g.L.Shelf c.args.shelf.now c.read_inputs.new.shelf c.args.command.now
+    (map (λ text. text.items) c.in_ok-texts.texts.items) c.text_by.result
+    c.in_ok-texts.ensures.reads
+    (length-map c.in_ok-texts.texts.items (λ text. text.items) ∙ c.in_ok-texts.ensures.count)
+    (rw c.in_default.is at c.names_over.ensures).1 c.text_by.ensures.answers

@@ -1,8 +1,8 @@
 use Rattle.std.proofs.Common.{◌≡◌, ◌+◌, ◌*◌, ◌<◌, ◌≤◌, ◌++◌, ◌∷◌, [], map, length, min}
 use Rattle.std.proofs.Common.{Some, sym, ap, ap₂, ◌∙◌, arith}
 use Rattle.std.proofs.lemmas.List.{map-append}
+use Rattle.ss_base.specs.declared.limits.TheConstants as limits
 use Rattle.ss_top.specs.Generated.{state_at, generated_document}
-use Rattle.ss_top.specs.Limits.{document_limit}
 use Rattle.ss_top.proofs.GeneratedLemmas.{state_at-add, generated_documents-more}
 use Rattle.ss_top.proofs.GeneratedLemmas.{sum_by-generated_documents-more, first_limit-more}
 use Rattle.ss_top.proofs.GeneratedLemmas.{generated_limit-met}
@@ -13,7 +13,7 @@ returns-in_default-clause-limit c =
     let passes = rw c.in_default.is at c.in_ok-document.ensures in
     let before = c.loop-before in
     let words = c.args.words in
-    let over : min before.left document_limit
+    let over : min before.left limits.DOCUMENT_BYTES
     < length (generated_document words (state_at c.args.seed (before.before * words))) =
     omega (
       arith,
@@ -22,10 +22,10 @@ returns-in_default-clause-limit c =
       ap (λ x. length (generated_document words x)) before.invariant.state,
     ) in
     λ hit e.
-    let same : c.limit_at.result ≡ hit = cc in
+    let same : c.limit_with.result ≡ hit = cc in
     generated_limit-met words c.args.seed before.before before.left before.invariant.left
-    before.invariant.within c.args.docs c.loop-before-test.true c.if-docs-gt-NAMES_LIMIT.false over
-    ∙ ap (λ limit. Some limit) (sym c.limit_at.ensures ∙ same)
+    before.invariant.within c.args.docs c.loop-before-test.true c.if-docs-gt-NAMES.false over
+    ∙ ap (λ limit. Some limit) (sym c.limit_with.ensures ∙ same)
 
 pub loop-before-preserved : goal.loop-before-preserved
 loop-before-preserved c =
@@ -35,7 +35,7 @@ loop-before-preserved c =
     let seed = c.args.seed in
     let document = made.0 ∙ ap (generated_document words) before.invariant.state in
     let fits : length (generated_document words (state_at seed (before.before * words)))
-    ≤ min before.left document_limit =
+    ≤ min before.left limits.DOCUMENT_BYTES =
     omega (arith, ap length document, made.1, c.min-most.ensures) in
     let one_more : before.before * words + words ≡ (before.before + 1) * words = omega arith in
     record {

@@ -1,7 +1,8 @@
 use Rattle.std.proofs.Common.{◌≡◌, ◌+◌, ◌*◌, ◌^◌, ◌<◌, map, length, None}
 use Rattle.std.specs.Prelude.{sum_by}
+use Rattle.ss_base.specs.declared.limits.TheConstants as limits
 use Rattle.ss_top.specs.Generated.{state_at, generated_documents}
-use Rattle.ss_top.specs.Limits.{all_documents_limit, first_limit}
+use Rattle.ss_top.specs.Limits.{first_limit}
 use Rattle.ss_top.proofs.generate.gen_documents.Given as goal
 
 -- the documents so far, which meet no limit, and what is left for the others
@@ -15,6 +16,6 @@ invariant-loop-before l =
       bound : l.state < 2 ^ 31;
       left :
           l.left + sum_by length (generated_documents l.before l.words l.seed)
-          ≡ all_documents_limit;
+          ≡ limits.ALL_DOCUMENT_BYTES;
       within : first_limit (generated_documents l.before l.words l.seed) ≡ None;
     }

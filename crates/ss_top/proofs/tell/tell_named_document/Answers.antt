@@ -1,12 +1,12 @@
 use Rattle.std.proofs.Common.{ℕ, List, subst, ◌∙◌}
 use Rattle.std.specs.Prelude.{codes, decimal}
 use Rattle.ss_top.specs.Runs.{Tells}
-use Rattle.ss_top.specs.Texts.{document_text}
+use Rattle.ss_top.specs.Texts.{document_limit_text}
 use Rattle.ss_top.proofs.PartsLemmas.{five_parts}
 use Rattle.ss_top.proofs.tell.tell_named_document.Goals as goal
 
 pub returns : goal.returns
-unfolding document_text
+unfolding document_limit_text
 returns g c =
     let P : List ℕ → Type 0 =
     λ text. Tells (g.E.Sink.gained c.args.err.now) (g.E.Sink.gained c.tell.new.err)

@@ -1,7 +1,7 @@
 use Rattle.std.proofs.Common.{◌≡◌, ◌+◌, ◌≤◌, length, drop}
 use Rattle.script_lang.specs.Lines.{lines}
 use Rattle.ss_top.proofs.LinesLemmas.{lines_from}
-use Rattle.ss_top.proofs.commands.script.line_count.Given as goal
+use Rattle.ss_top.proofs.reading.line_count.Given as goal
 
 -- the lines so far, and those that begin from here on
 abbrev pub invariant-loop-byte : goal.invariant-loop-byte

@@ -3,7 +3,7 @@ use Rattle.std.proofs.lemmas.Result.{IfOk-weaker}
 use Rattle.index_definitions.specs.Words.{terms_in}
 use Rattle.index_definitions.proofs.PostingsLemmas.{index_without-same}
 use Rattle.ss_top.proofs.LimitsLemmas.{AllByRecursion-within}
-use Rattle.ss_top.proofs.commands.indexing.index_of.Goals as goal
+use Rattle.ss_top.proofs.commands.indexing.index_documents.Goals as goal
 
 pub build-index-requires-clause-within : goal.build-index-requires-clause-within
 build-index-requires-clause-within g c κs within =
