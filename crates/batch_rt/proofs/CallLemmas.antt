@@ -1,0 +1,85 @@
+-- What calls of the runtime need of a store.
+use Rattle.std.proofs.Common.{◌≡◌, ℕ, zero, suc, ◌<◌, ◌≤◌, ◌+◌, replicate, arith, Bool, true, false, Option, Some, None, List, [], ◌∷◌, ◌++◌, map, length, refl, sym, ap, subst}
+use Rattle.std.specs.Prelude.{Result, Ok, Err, OnOk}
+use Rattle.std.specs.List.{range_with_len}
+use Rattle.std.proofs.lemmas.Option.{same_Some}
+use Rattle.ss_base.specs.declared.ids.SetId.{SetId}
+use Rattle.execution_definitions.specs.declared.refusal.Refusal.{Refusal}
+use Rattle.execution_definitions.specs.Refusals.{first_of, refuse_if}
+use Rattle.execution_definitions.specs.Sets.{lane_of_set}
+use Rattle.execution_definitions.specs.Runs.{sent}
+use Rattle.delegation.proofs.runs.SentLemmas.{lane_of_set-below}
+use Rattle.delegation.specs.Runtimes.{RuntimeView, HasDone, sent_to_lanes}
+use Rattle.delegation.specs.Answers.{HasCaughtUp}
+use Rattle.batch_rt.specs.declared.store.Store.{Store}
+use Rattle.batch_rt.specs.declared.lane.Lane.{Lane}
+use Rattle.batch_rt.specs.Lanes.{IsIdle}
+use Rattle.batch_rt.specs.Stores.{store_sent, Each, IsCaughtUp}
+use Rattle.batch_rt.proofs.IdleLemmas.{idle_sent, idle_caught_up}
+use Rattle.batch_rt.proofs.ContinueLemmas.{logs_done}
+
+-- a call that an open epoch refuses finds none
+pub closed_from : (is_open : Bool) (why : Refusal) (rest : Option Refusal) →
+    first_of (refuse_if is_open why) rest ≡ None → is_open ≡ false
+closed_from true why rest is = absurd cc
+closed_from false why rest is = refl
+
+module _ {C O R : Type 0} where
+  -- lanes did the first of what was sent to them, and idle lanes all
+  pub store_done : (store : Store C O R) (is_open : Bool) →
+      length store.logs.items ≡ length store.lanes.items →
+      (is_open ≡ false → Each IsIdle store.lanes.items) →
+      HasDone (store_sent store) store.logs.items is_open
+  store_done store is_open count idle =
+      logs_done store.logs.items store.lanes.items is_open count
+      (λ closed. sym (idle_sent store.logs.items store.lanes.items (idle closed) count))
+
+  -- the same of a store with these lanes and logs
+  pub caught_up : (store : Store C O R) (n : ℕ) (set : Option SetId) (runtime : RuntimeView C R) →
+      runtime.delegates ≡ n → runtime.logs ≡ store.logs.items → runtime.sent ≡ store_sent store →
+      IsCaughtUp store n set → HasCaughtUp runtime set
+  caught_up store n None runtime delegates logs sent is = tt
+  caught_up store n (Some set) runtime delegates logs sent is = rw (delegates, logs, sent) is
+
+-- idle lanes have done all that was sent to them
+pub idle_catch : {C O R : Type 0} (store : Store C O R) (n : ℕ) (set : Option SetId) →
+    length store.logs.items ≡ length store.lanes.items → Each IsIdle store.lanes.items →
+    IsCaughtUp store n set
+idle_catch store n None count idle = tt
+idle_catch store n (Some set) count idle =
+    idle_caught_up store.logs.items store.lanes.items (lane_of_set set.0 n) count
+    (idle (lane_of_set set.0 n))
+
+pub open_closed : (is_open : Bool) → is_open ≡ true → is_open ≡ false → ⊥
+open_closed true opened closed = absurd cc
+open_closed false opened closed = absurd cc
+
+-- what follows from facts that hold after Ok
+pub on_ok3 : {T E P Q S U : Type 0} (result : Result T E) → OnOk result P → OnOk result Q →
+    OnOk result S → (P → Q → S → U) → OnOk result U
+on_ok3 (Ok value) p q s next = next p q s
+on_ok3 (Err error) p q s next = tt
+
+-- a set has one of the lanes
+pub lane_within : (set n : ℕ) → 1 ≤ n → lane_of_set set n < n
+lane_within set zero some = absurd (omega arith)
+lane_within set (suc n) some = lane_of_set-below set (suc n)
+
+-- nothing was sent before the first call
+none_sent : (n start count : ℕ) →
+    map (sent [] n) (range_with_len start count) ≡ replicate count []
+none_sent n start zero = refl
+none_sent n start (suc count) = ap (λ rest. [] ∷ rest) (none_sent n (start + 1) count)
+
+pub none_sent_to_lanes : (n : ℕ) → 1 ≤ n → replicate n [] ≡ sent_to_lanes [] n
+none_sent_to_lanes zero some = absurd (omega arith)
+none_sent_to_lanes (suc n) some = sym (none_sent (suc n) 0 (suc n))
+
+-- one lane more that is so
+pub each_push : {C O R : Type 0} (P : Lane C O R → Type 0) (lanes : List (Lane C O R))
+    (new : Lane C O R) → Each P lanes → P new → Each P (lanes ++ new ∷ [])
+each_push P [] new each is zero lane at = subst P (same_Some _ _ at) is
+each_push P [] new each is (suc n) lane at = absurd cc
+each_push P (first ∷ lanes) new each is zero lane at = each 0 lane at
+each_push P (first ∷ lanes) new each is (suc n) lane at =
+    each_push P lanes new (λ k lane at. each (suc k) lane at) is n lane at

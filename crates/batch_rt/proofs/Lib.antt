@@ -1,0 +1,10 @@
+pub mod ListLemmas
+pub mod TotalLemmas
+pub mod LaneLemmas
+pub mod StoreLemmas
+pub mod SameLemmas
+pub mod HomeLemmas
+pub mod MoveLemmas
+pub mod IdleLemmas
+pub mod ContinueLemmas
+pub mod CallLemmas

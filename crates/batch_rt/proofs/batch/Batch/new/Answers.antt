@@ -1,0 +1,37 @@
+use Rattle.std.proofs.Common.{refl, sym, ap, ◌∙◌, length, []}
+use Rattle.std.proofs.lemmas.List.{length-replicate}
+use Rattle.batch_rt.proofs.IdleLemmas.{idle_whole}
+use Rattle.batch_rt.proofs.CallLemmas.{none_sent_to_lanes, store_done}
+use Rattle.batch_rt.proofs.batch.Batch.new.Goals as goal
+
+pub invariant_of-result : goal.invariant_of-result
+invariant_of-result g c =
+    let store = c.in_ok-new_store.field-0 in
+    let new = c.in_ok-new_store.ensures in
+    record {
+      some_delegate = c.requires.some;
+      at_most_64 = c.requires.at_most_64;
+      kept = λ usable. record {
+        whole = rw new.objects (idle_whole store.lanes.items new.idle);
+        marked = ap length new.objects ∙ sym c.new.ensures.objects;
+        lane_count = new.lanes;
+        log_count = ap length new.logs ∙ length-replicate c.args.n [];
+        idle = λ closed. new.idle;
+      };
+    }
+
+pub returns : goal.returns
+returns g c =
+    let store = c.in_ok-new_store.field-0 in
+    let new = c.in_ok-new_store.ensures in
+    record {
+      after = record {
+        state = new.state;
+        marks = c.new.ensures;
+        sent = new.sent ∙ new.logs ∙ none_sent_to_lanes c.args.n c.requires.some;
+        logs = store_done store _ (ap length new.logs ∙ length-replicate c.args.n [] ∙ sym new.lanes)
+            (λ closed. new.idle);
+      };
+      delegates = refl;
+      usable = refl;
+    }

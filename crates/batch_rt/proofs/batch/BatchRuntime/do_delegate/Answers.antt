@@ -1,0 +1,50 @@
+use Rattle.std.proofs.Common.{rules, refl, sym, ap, ◌∙◌}
+use Rattle.execution_definitions.specs.Meanings.{number_given}
+use Rattle.partition_check.proofs.marked.AcceptedLemmas.{delegable}
+use Rattle.delegation.proofs.plains.PlainLemmas.{length-delegated}
+use Rattle.batch_rt.proofs.CallLemmas.{store_done, open_closed}
+use Rattle.batch_rt.proofs.batch.BatchRuntime.do_delegate.Goals as goal
+
+pub invariant_of-self-in-Ok : goal.invariant_of-self-in-Ok
+invariant_of-self-in-Ok g c =
+    let sent = c.in-Ok.ensures in
+    let opened = (delegable c.args.self.now.marks c.args.o.0 c.own_set.result
+    (number_given c.args.reading) c.in_ok-set.ensures.judged).isolating in
+    record {
+      some_delegate = c.args.self.now.some_delegate;
+      at_most_64 = c.args.self.now.at_most_64;
+      kept = λ usable. let kept = c.args.self.now.kept usable in record {
+        whole = sent.whole;
+        marked = sent.objects ∙ kept.marked
+            ∙ sym (length-delegated _ _ c.args.o.0 _ _ c.in_ok-set.ensures.after);
+        lane_count = sent.lanes ∙ kept.lane_count;
+        log_count = sym sent.logs.count ∙ kept.log_count;
+        idle = λ closed. absurd (open_closed c.args.self.now.marks.is_open opened
+            (sym (ap (λ marks. marks.is_open) c.in_ok-set.ensures.after) ∙ closed));
+      };
+    }
+
+pub returns-clause-answered : goal.returns-clause-answered
+returns-clause-answered g c =
+    let usable = c.in_ok-check_usable.ensures.ok in
+    let kept = c.args.self.now.kept usable in
+    let sent = c.in-Ok.ensures in
+    let opened = (delegable c.args.self.now.marks c.args.o.0 c.own_set.result
+    (number_given c.args.reading) c.in_ok-set.ensures.judged).isolating in
+    let count = sym sent.logs.count ∙ kept.log_count ∙ sym (sent.lanes ∙ kept.lane_count) in (
+      record {
+        allowed = search rules;
+        delegates = refl;
+        state = sent.state;
+        marks = search rules;
+        sent = search rules;
+        logs = sent.logs;
+        done = store_done c.send.new.store _ count (λ closed.
+            absurd (open_closed c.args.self.now.marks.is_open opened
+            (sym (ap (λ marks. marks.is_open) c.in_ok-set.ensures.after) ∙ closed)));
+        reclaimed = tt;
+        was_usable = usable;
+        usable = usable;
+      },
+      search rules,
+    )
