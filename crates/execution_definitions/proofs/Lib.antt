@@ -2,4 +2,3 @@ pub mod lists
 pub mod shapes
 pub mod worked
 pub mod programs
-pub mod machines

@@ -1,4 +1,2 @@
 pub mod SequentialLemmas
 pub mod ProgramsLemmas
-pub mod ObjectsLemmas
-pub mod OperatedLemmas

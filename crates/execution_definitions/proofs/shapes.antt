@@ -6,4 +6,4 @@ pub mod RefusalsLemmas
 pub mod RunsLemmas
 pub mod LawsLemmas
 pub mod LastDelegationLemmas
-pub mod HoldingLemmas
+pub mod PreparedLemmas

@@ -1,4 +1,2 @@
 pub mod WorkedCases
 pub mod WorkedPrograms
-pub mod WorkedMerges
-pub mod WorkedReplays

@@ -9,5 +9,3 @@ pub mod Meanings
 pub mod Sequential
 pub mod Programs
 pub mod Laws
-pub mod Merges
-pub mod Machines

@@ -6,7 +6,7 @@ use Rattle.std.proofs.lemmas.Bool.Decides.{nat_tests}
 use Rattle.std.proofs.lemmas.List.Folds.{list_any-append}
 use Rattle.std.proofs.lemmas.List.Sums.{sum_by-append}
 use Rattle.execution_definitions.specs.Shapes.{Shape}
-use Rattle.execution_definitions.specs.Merges.{must_stand_before, is_among, times_among, BeginsMerge}
+use Rattle.interleavings.specs.Merges.{must_stand_before, is_among, times_among, BeginsMerge}
 use Rattle.history.specs.Fronts.{IsBegun, BeginsWhereItIsBegun}
 use Rattle.history.proofs.OrderLemmas.{times-first, times-here, part_among}
 

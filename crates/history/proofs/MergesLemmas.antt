@@ -10,18 +10,18 @@ use Rattle.execution_definitions.specs.Shapes.{Shape}
 use Rattle.execution_definitions.specs.Sets.{object_count, set_of, lane_of_set}
 use Rattle.execution_definitions.specs.Refusals.{if_reading, unknown_object}
 use Rattle.execution_definitions.proofs.programs.SequentialLemmas.{shapes_of-push}
-use Rattle.execution_definitions.proofs.programs.ObjectsLemmas.{objects_counted}
+use Rattle.interleavings.proofs.programs.ObjectsLemmas.{objects_counted}
 use Rattle.execution_definitions.proofs.shapes.RefusalsLemmas.{known}
 use Rattle.execution_definitions.specs.declared.call.Call.{Call}
 use Rattle.execution_definitions.specs.declared.call.Call.TheVariants.{Make, MakeFixed, Begin, Delegate, Write, Get, End, Total}
 use Rattle.execution_definitions.specs.Meanings.{Meaning, number_given, shape_of, shapes_of}
 use Rattle.execution_definitions.specs.Sequential.{State, initial_state, state_after}
-use Rattle.execution_definitions.specs.Merges.{must_stand_before, is_among, state_after_some, state_after_place}
+use Rattle.interleavings.specs.Merges.{must_stand_before, is_among, state_after_some, state_after_place}
 use Rattle.history.specs.Theorem.{MergesLeaveTheSame}
 use Rattle.execution_definitions.proofs.lists.ListLemmas.{slice_get-append_seam}
-use Rattle.execution_definitions.proofs.programs.OperatedLemmas.{IsOther, JoinsInAnyOrder}
+use Rattle.interleavings.proofs.programs.OperatedLemmas.{IsOther, JoinsInAnyOrder}
 use Rattle.history.proofs.MoveLemmas.{IsApart, IsApartSome, AreApart, ReadsWithin, delegation_moves}
-use Rattle.execution_definitions.proofs.shapes.HoldingLemmas.{IsSoundAfter, sound_after, accepted, holds_from, IsOtherNumber, IsShapeApart, is_delegate, IsFound, find_apart}
+use Rattle.interleavings.proofs.shapes.HoldingLemmas.{IsSoundAfter, sound_after, accepted, holds_from, IsOtherNumber, IsShapeApart, is_delegate, IsFound, find_apart}
 use Rattle.history.proofs.OrderLemmas.{part_at, part_among, absent_before, present, IsRest, rest_within, rest_behind}
 use Rattle.history.proofs.PlaceLemmas.{IsSplit, split_at, overtakes_none, IsBetween, barrier_stands, waits_stands}
 

@@ -6,10 +6,10 @@ use Rattle.execution_definitions.specs.declared.call.Call.{Call}
 use Rattle.execution_definitions.specs.declared.call.Call.TheVariants.{Make, MakeFixed, Begin, Delegate, Write, Get, End, Total}
 use Rattle.execution_definitions.specs.Meanings.{Meaning}
 use Rattle.execution_definitions.specs.Sequential.{State, value_read, with_object, operated, state_after}
-use Rattle.execution_definitions.specs.Merges.{state_after_some, state_after_place}
+use Rattle.interleavings.specs.Merges.{state_after_some, state_after_place}
 use Rattle.execution_definitions.proofs.lists.ListLemmas.{slice_get-front}
-use Rattle.execution_definitions.proofs.programs.ObjectsLemmas.{objects_grow}
-use Rattle.execution_definitions.proofs.programs.OperatedLemmas.{IsOther, JoinsInAnyOrder, value_read-operated, operated-with_object, operations_commute}
+use Rattle.interleavings.proofs.programs.ObjectsLemmas.{objects_grow}
+use Rattle.interleavings.proofs.programs.OperatedLemmas.{IsOther, JoinsInAnyOrder, value_read-operated, operated-with_object, operations_commute}
 
 module _ {C O : Type 0} where
   -- a call that can change places with a delegation to an object that reads another or none

@@ -6,7 +6,7 @@ use Rattle.std.proofs.lemmas.Bool.Decides.{nat_tests}
 use Rattle.std.proofs.lemmas.List.Folds.{list_any-append}
 use Rattle.std.proofs.lemmas.List.Sums.{sum_by-append}
 use Rattle.execution_definitions.specs.Shapes.{Shape}
-use Rattle.execution_definitions.specs.Merges.{must_stand_before, is_among, times_among}
+use Rattle.interleavings.specs.Merges.{must_stand_before, is_among, times_among}
 
 pub times-first : (first : ℕ) (rest : List ℕ) (place : ℕ) →
     times_among (first ∷ rest) place ≡ cond (first == place) 1 0 + times_among rest place

@@ -4,8 +4,8 @@ use Rattle.std.specs.Prelude.{slice_get}
 use Rattle.std.proofs.lemmas.Bool.Decides.{nat_tests}
 use Rattle.std.proofs.Math.Seq.{take-append_seam}
 use Rattle.execution_definitions.specs.Shapes.{Shape, make, make_fixed, begin, delegate, write, get, end, total}
-use Rattle.execution_definitions.specs.Merges.{lane_of_call, lane_at, waits_for, waits_for_lane, must_stand_before}
-use Rattle.execution_definitions.proofs.shapes.HoldingLemmas.{is_delegate, HasBarrier}
+use Rattle.interleavings.specs.Merges.{lane_of_call, lane_at, waits_for, waits_for_lane, must_stand_before}
+use Rattle.interleavings.proofs.shapes.HoldingLemmas.{is_delegate, HasBarrier}
 use Rattle.execution_definitions.proofs.lists.ListLemmas.{slice_get-append_seam}
 
 -- a list, parted at a place

@@ -4,7 +4,7 @@
 -- before it.
 use Rattle.std.specs.Prelude.{◌≡◌, ℕ, ◌≤◌, true, List, ◌∷◌, ◌++◌, length}
 use Rattle.execution_definitions.specs.Shapes.{Shape}
-use Rattle.execution_definitions.specs.Merges.{must_stand_before, is_among, times_among, BeginsMerge}
+use Rattle.interleavings.specs.Merges.{must_stand_before, is_among, times_among, BeginsMerge}
 
 -- each is a place of the calls, stands once, and behind whatever must stand before it
 pub record IsBegun (n : ℕ) (calls : List Shape) (front : List ℕ) : Type 0 where

@@ -7,7 +7,7 @@ use Rattle.execution_definitions.specs.declared.call.Call.{Call}
 use Rattle.execution_definitions.specs.Soundness.{IsSound}
 use Rattle.execution_definitions.specs.Meanings.{Meaning, shapes_of}
 use Rattle.execution_definitions.specs.Sequential.{sequential_state}
-use Rattle.execution_definitions.specs.Merges.{IsLegal, replay_list}
+use Rattle.interleavings.specs.Merges.{IsLegal, replay_list}
 
 module _ {C O R : Type 0} (m : Meaning C O R) where
   -- every legal merge, for any number of lanes, of every sound list

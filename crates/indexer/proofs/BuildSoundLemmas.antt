@@ -18,8 +18,8 @@ use Rattle.indexer.specs.BuildCalls.{gather_document_calls, gather_calls, get_ca
 use Rattle.indexer.specs.BuildCalls.{BuildIsSound}
 use Rattle.indexer.proofs.PartsLemmas.{shape}
 use Rattle.indexer.proofs.RangeLemmas.{length-shard_numbers}
-use Rattle.indexer.proofs.PreparedLemmas.{IsPrepared, IsApart, prepared-made, prepared-looked}
-use Rattle.indexer.proofs.PreparedLemmas.{prepared-total, prepared-epoch, each-kept}
+use Rattle.execution_definitions.proofs.shapes.PreparedLemmas.{IsPrepared, IsApart, prepared-made, prepared-looked}
+use Rattle.execution_definitions.proofs.shapes.PreparedLemmas.{prepared-total, prepared-epoch, each-kept}
 
 -- ---- what holds of each item
 

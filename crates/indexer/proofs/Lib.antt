@@ -5,7 +5,6 @@ pub mod BuiltLemmas
 pub mod CollectedLemmas
 pub mod JoinedLemmas
 pub mod PartsLemmas
-pub mod PreparedLemmas
 pub mod RangeLemmas
 pub mod ShardListsLemmas
 pub mod TotalsLemmas

@@ -23,17 +23,17 @@ use Rattle.execution_definitions.specs.Held.{frees, later_set, last_set, held_se
 use Rattle.execution_definitions.specs.Refusals.{breaks, if_reading, private_object}
 use Rattle.execution_definitions.specs.Meanings.{Meaning, number_given, shape_of, shapes_of}
 use Rattle.execution_definitions.specs.Sequential.{State, value_read, operated, state_after, reply_of, sequential_state}
-use Rattle.execution_definitions.specs.Merges.{set_since_begin, has_lane, waits_for}
-use Rattle.execution_definitions.specs.Machines.{Entry, Core, is_empty, is_idle, front_at, is_idle_for, drained, taken, may_take, call_event}
+use Rattle.interleavings.specs.Merges.{set_since_begin, has_lane, waits_for}
+use Rattle.interleavings.specs.Machines.{Entry, Core, is_empty, is_idle, front_at, is_idle_for, drained, taken, may_take, call_event}
 use Rattle.execution_definitions.proofs.shapes.EpochsLemmas.{IsWithin}
 use Rattle.execution_definitions.proofs.shapes.SetsLemmas.{object_count-same}
 use Rattle.execution_definitions.proofs.shapes.HeldLemmas.{held_set-push}
 use Rattle.execution_definitions.proofs.shapes.RefusalsLemmas.{first_of-none, known}
 use Rattle.execution_definitions.proofs.programs.SequentialLemmas.{shapes_of-push, sequential_state-push}
-use Rattle.execution_definitions.proofs.programs.ObjectsLemmas.{objects_counted}
-use Rattle.execution_definitions.proofs.programs.OperatedLemmas.{JoinsInAnyOrder, operated-length}
-use Rattle.execution_definitions.proofs.shapes.HoldingLemmas.{Holds, is_delegate, accepted, accepted_write, accepted_total, holds_from, set_since_begin-open, unread_when_held, judge}
-use Rattle.execution_definitions.proofs.machines.DrainLemmas.{EachEntry, EachLane, each_entry-map, each_lane-flat, each_lane-front, each_lane-with_entry, each_lane-without_front, length-with_entry, length-without_front, IsElsewhere, AreElsewhere, ElsewhereBefore, ElsewhereBehind, IsWithinCount, lanes_done-length, slice_get-lanes_done, nothing_done, lanes_done-with_object, passes_lanes, front_first, entry_last}
+use Rattle.interleavings.proofs.programs.ObjectsLemmas.{objects_counted}
+use Rattle.interleavings.proofs.programs.OperatedLemmas.{JoinsInAnyOrder, operated-length}
+use Rattle.interleavings.proofs.shapes.HoldingLemmas.{Holds, is_delegate, accepted, accepted_write, accepted_total, holds_from, set_since_begin-open, unread_when_held, judge}
+use Rattle.interleavings.proofs.machines.DrainLemmas.{EachEntry, EachLane, each_entry-map, each_lane-flat, each_lane-front, each_lane-with_entry, each_lane-without_front, length-with_entry, length-without_front, IsElsewhere, AreElsewhere, ElsewhereBefore, ElsewhereBehind, IsWithinCount, lanes_done-length, slice_get-lanes_done, nothing_done, lanes_done-with_object, passes_lanes, front_first, entry_last}
 
 -- ---- lanes
 

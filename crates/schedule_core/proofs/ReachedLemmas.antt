@@ -18,12 +18,12 @@ use Rattle.execution_definitions.specs.Soundness.{IsSound, first_refusal}
 use Rattle.execution_definitions.specs.Meanings.{Meaning, shape_of, shapes_of}
 use Rattle.execution_definitions.specs.Sequential.{State, initial_state, reply_of, sequential_state, sequential_replies}
 use Rattle.execution_definitions.specs.Programs.{sound_front}
-use Rattle.execution_definitions.specs.Machines.{Entry, Core, MachineState, is_empty, front_at, is_idle_for, entries_done, may_take, call_event, initial_machine, judged_event, taken_event, calls_taken, next_call, may_take_some, is_enabled, program_event, event_taken, after_event, after_schedule, IsFinished, taken, least_busy, event_by_rule, FollowsRule}
+use Rattle.interleavings.specs.Machines.{Entry, Core, MachineState, is_empty, front_at, is_idle_for, entries_done, may_take, call_event, initial_machine, judged_event, taken_event, calls_taken, next_call, may_take_some, is_enabled, program_event, event_taken, after_event, after_schedule, IsFinished, taken, least_busy, event_by_rule, FollowsRule}
 use Rattle.execution_definitions.proofs.shapes.SoundnessLemmas.{IsSound-push, first_refusal-at, first_refusal-sound}
 use Rattle.execution_definitions.proofs.programs.SequentialLemmas.{shapes_of-push, sequential_replies-push}
 use Rattle.execution_definitions.proofs.programs.ProgramsLemmas.{sound_front-sound, sound_front-at}
-use Rattle.execution_definitions.proofs.programs.OperatedLemmas.{JoinsInAnyOrder}
-use Rattle.execution_definitions.proofs.machines.DrainLemmas.{EachEntry, EachLane, nothing_done}
+use Rattle.interleavings.proofs.programs.OperatedLemmas.{JoinsInAnyOrder}
+use Rattle.interleavings.proofs.machines.DrainLemmas.{EachEntry, EachLane, nothing_done}
 use Rattle.schedule_core.specs.Theorem.{IsAtEnd, GivesTheSame, SchedulesGiveTheSame, ReplaysGiveTheSame, DrainIsByEvents}
 use Rattle.schedule_core.proofs.FollowLemmas.{all_idle, IsHeldIn, Follows, follows-taken, follows-call, reply_same}
 

@@ -10,7 +10,7 @@ use Rattle.execution_definitions.specs.Soundness.{IsSound, first_refusal}
 use Rattle.execution_definitions.specs.Meanings.{Meaning, shapes_of}
 use Rattle.execution_definitions.specs.Sequential.{sequential_state, sequential_replies}
 use Rattle.execution_definitions.specs.Programs.{sound_front}
-use Rattle.execution_definitions.specs.Machines.{MachineState, least_busy, drained, lane_event, Core, calls_taken, initial_machine, after_schedule, IsFinished, IsReplay}
+use Rattle.interleavings.specs.Machines.{MachineState, least_busy, drained, lane_event, Core, calls_taken, initial_machine, after_schedule, IsFinished, IsReplay}
 
 module _ {C O R : Type 0} (m : Meaning C O R) where
   -- the calls taken so far: none breaks the partition rule, they are answered as without delegates,

@@ -15,7 +15,7 @@ use Rattle.execution_definitions.specs.Epochs.{since, isolating, this_epoch}
 use Rattle.execution_definitions.specs.Held.{is_fixed, frees, later_set, last_set_among, last_set, held_set, is_read_shared}
 use Rattle.execution_definitions.specs.Refusals.{breaks, refuse_if, if_reading, unknown_object, two_sets_if, two_sets, self_read, private_if, private_object}
 use Rattle.execution_definitions.specs.Soundness.{first_break_after, place_or}
-use Rattle.execution_definitions.specs.Merges.{set_since_begin, has_lane, waits_for}
+use Rattle.interleavings.specs.Merges.{set_since_begin, has_lane, waits_for}
 use Rattle.execution_definitions.proofs.shapes.EpochsLemmas.{IsWithin, isolating-within}
 use Rattle.execution_definitions.proofs.shapes.SetsLemmas.{object_count_grows, serializer_in-kept}
 use Rattle.execution_definitions.proofs.shapes.HeldLemmas.{kept_set, last_set-push, held_set-push, reads-push}

@@ -11,8 +11,8 @@ use Rattle.execution_definitions.specs.Shapes.{Shape}
 use Rattle.execution_definitions.specs.Soundness.{first_break}
 use Rattle.execution_definitions.specs.Meanings.{Meaning, shapes_of}
 use Rattle.execution_definitions.specs.Sequential.{sequential_state}
-use Rattle.execution_definitions.specs.Merges.{must_stand_before, replay_list}
-use Rattle.execution_definitions.specs.Machines.{MachineState, drained, initial_machine, is_enabled, after_schedule}
+use Rattle.interleavings.specs.Merges.{must_stand_before, replay_list}
+use Rattle.interleavings.specs.Machines.{MachineState, drained, initial_machine, is_enabled, after_schedule}
 
 -- an operation names the set of its number, adds it, and contributes what it finds
 adding : Meaning ℕ ℕ ℕ

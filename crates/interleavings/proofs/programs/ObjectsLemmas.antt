@@ -7,7 +7,7 @@ use Rattle.execution_definitions.specs.Sets.{object_count}
 use Rattle.execution_definitions.specs.Meanings.{Meaning, number_given, shape_of, shapes_of}
 use Rattle.execution_definitions.specs.Sequential.{State, value_read, state_after}
 use Rattle.execution_definitions.proofs.shapes.SetsLemmas.{object_count-same, object_count-made}
-use Rattle.execution_definitions.proofs.programs.OperatedLemmas.{operated-length}
+use Rattle.interleavings.proofs.programs.OperatedLemmas.{operated-length}
 
 module _ {C O R : Type 0} (m : Meaning C O R) where
   -- objects aren't lost

@@ -9,8 +9,8 @@ use Rattle.execution_definitions.specs.declared.call.Call.TheVariants as call
 use Rattle.execution_definitions.specs.Soundness.{first_break}
 use Rattle.execution_definitions.specs.Meanings.{Meaning, shapes_of}
 use Rattle.execution_definitions.specs.Sequential.{sequential_state}
-use Rattle.execution_definitions.specs.Merges.{must_stand_before, replay_list}
-use Rattle.execution_definitions.specs.Machines.{MachineState, initial_machine, is_enabled, after_schedule, FollowsRule, IsReplay}
+use Rattle.interleavings.specs.Merges.{must_stand_before, replay_list}
+use Rattle.interleavings.specs.Machines.{MachineState, initial_machine, is_enabled, after_schedule, FollowsRule, IsReplay}
 
 -- an operation adds its number and contributes nothing
 acting : Meaning ℕ ℕ ℕ

@@ -6,8 +6,8 @@ use Rattle.std.specs.Prelude.{fold, slice_get, ⊤}
 use Rattle.std.proofs.lemmas.List.Sums.{fold-append}
 use Rattle.execution_definitions.specs.Meanings.{Meaning}
 use Rattle.execution_definitions.specs.Sequential.{State, with_object, operated}
-use Rattle.execution_definitions.specs.Machines.{Entry, front_at, behind_front, with_entry, without_front, entry_done, entries_done}
-use Rattle.execution_definitions.proofs.programs.OperatedLemmas.{JoinsInAnyOrder, operated-length, slice_get-operated, operated-with_object, operations_commute}
+use Rattle.interleavings.specs.Machines.{Entry, front_at, behind_front, with_entry, without_front, entry_done, entries_done}
+use Rattle.interleavings.proofs.programs.OperatedLemmas.{JoinsInAnyOrder, operated-length, slice_get-operated, operated-with_object, operations_commute}
 
 -- ---- facts of each entry
 

@@ -1,0 +1,4 @@
+pub mod shapes
+pub mod programs
+pub mod machines
+pub mod worked

@@ -1,0 +1,2 @@
+pub mod OperatedLemmas
+pub mod ObjectsLemmas

@@ -1,0 +1,2 @@
+pub mod WorkedMerges
+pub mod WorkedReplays
