@@ -5,6 +5,7 @@ ghost use Rattle.script_lang.specs.Acts.{script_meaning};
 
 use crate::cases::{Answer, CASES, Case, LISTS, Listed, Step, refused};
 use crate::scarce::{Need, Scarce};
+use batch_rt::Batch;
 use delegation::{Call, Delegation, Fault, Plain, Reply, make_call, run_calls};
 use execution_definitions::By;
 use script_lang::{Act, Deed, Word32};
@@ -243,5 +244,41 @@ fn plain_shows_what_ran(rt: HostRuntime) -> Result<(), Fail> {
     }
     let log = &d.runs()[0];
     assert_eq!(rt; log.runs.len(), 1);
+    Ok(())
+}
+
+// The numbers of delegates that the tables are gone through with.
+const DELEGATES: [u32; 4] = [1, 2, 3, 64];
+
+#[test]
+fn batch_passes_all_cases(rt: HostRuntime) -> Result<(), Fail> {
+    for delegates in DELEGATES {
+        assert!(rt; 1 <= delegates && delegates <= 64);
+        for case in CASES {
+            let d = Batch::new(rt.alloc(), delegates)?;
+            passes(&rt, rt.alloc(), d, delegates, case);
+        }
+    }
+    Ok(())
+}
+
+#[test]
+fn batch_runs_lists(rt: HostRuntime) -> Result<(), Fail> {
+    for delegates in DELEGATES {
+        assert!(rt; 1 <= delegates && delegates <= 64);
+        for list in LISTS {
+            let mut d = Batch::new(rt.alloc(), delegates)?;
+            runs_a_list(&rt, rt.alloc(), &mut d, list)?;
+        }
+    }
+    Ok(())
+}
+
+#[test]
+fn batch_fails_for_good(rt: HostRuntime) -> Result<(), Fail> {
+    for delegates in DELEGATES {
+        assert!(rt; 1 <= delegates && delegates <= 64);
+        fails_for_good(&rt, Batch::new(rt.alloc(), delegates)?, Answer::Done);
+    }
     Ok(())
 }
