@@ -65,3 +65,26 @@ def best_of(runs):
     """The least time and the highest peak of several runs of one command."""
     last = runs[-1]
     return Run(last.status, min(r.seconds for r in runs), max(r.peak_bytes for r in runs), last.digest)
+
+
+def preloaded(code, folder):
+    """Compiles C code to a library in a folder, and gives a function that runs a command there with the library before
+    the C library. It takes the command, its standard input, and variables of the environment, and answers the command's
+    status, what it printed on both streams, and what the library wrote to file 9."""
+    source, shim = os.path.join(folder, "shim.c"), os.path.join(folder, "shim.so")
+    with open(source, "w") as file:
+        file.write(code)
+    subprocess.run(["cc", "-O1", "-shared", "-fPIC", "-o", shim, source, "-ldl"], check=True)
+
+    def run(words, given, **variables):
+        told, tell = os.pipe()
+        child = subprocess.Popen(
+            words, cwd=folder, stdin=subprocess.PIPE, stdout=subprocess.PIPE, stderr=subprocess.PIPE,
+            env=dict(os.environ, LD_PRELOAD=shim, **variables), preexec_fn=lambda: os.dup2(tell, 9), pass_fds=(9,),
+        )
+        os.close(tell)
+        out, err = child.communicate(given)
+        with os.fdopen(told, "rb") as lines:
+            return (child.returncode, out, err), lines.read()
+
+    return run
