@@ -12,6 +12,7 @@ ghost use Rattle.ss_top.specs.declared.command.WordsFault.TheVariants as fault;
 
 use ss_base::{OutOfMemory, Text, Texts};
 use std::alloc::Global;
+use thiserror::Error;
 
 /// A command with what its words gave. The name `-` is standard input.
 #[derive(Drop, Debug)]
@@ -25,11 +26,13 @@ pub enum Command {
 }
 
 /// Why words gave no command.
-#[derive(Clone, Copy, Debug, PartialEq, Eq)]
+#[derive(Clone, Copy, Debug, PartialEq, Eq, Error)]
 pub enum WordsFault {
     /// They are no command.
+    #[error("the words are no command")]
     Usage,
     /// There was no memory for the command.
+    #[error("out of memory")]
     OutOfMemory,
 }
 

@@ -12,13 +12,16 @@ use itoa::Buffer;
 use ss_base::OutOfMemory;
 use ss_base::limits::{ALL_DOCUMENT_BYTES, DOCUMENT_BYTES, NAMES};
 use std::alloc::{AllocError, AllocFailed, Global};
+use thiserror::Error;
 
 /// Why documents weren't generated.
-#[derive(Clone, Copy, Debug, PartialEq, Eq)]
+#[derive(Clone, Copy, Debug, PartialEq, Eq, Error)]
 pub enum GenFault {
     /// They pass this limit first.
+    #[error("the documents pass a limit")]
     Limit(LimitHit),
     /// There was no memory.
+    #[error("out of memory")]
     OutOfMemory,
 }
 

@@ -4,6 +4,7 @@ ghost use Rattle.ss_top.specs.Statuses.{code_of};
 
 use execution_definitions::Refusal;
 use script_lang::{Script, ScriptFault};
+use thiserror::Error;
 
 /// An input of a command. Names count from 1.
 #[derive(Clone, Copy, Debug, PartialEq, Eq)]
@@ -38,9 +39,10 @@ pub enum LimitHit {
 }
 
 /// What is wrong with the text of an input.
-#[derive(Clone, Copy, Debug, PartialEq, Eq)]
+#[derive(Clone, Copy, Debug, PartialEq, Eq, Error)]
 pub enum TextFault {
     /// The first bad line of a script.
+    #[error(transparent)]
     Script(ScriptFault),
 }
 

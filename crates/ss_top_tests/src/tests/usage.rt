@@ -1,6 +1,6 @@
 // Words that are no command, and the two texts of the program itself.
 use crate::tests::{shelf_of, sink, words_of};
-use ss_top::{Status, run, tell_memory, tell_usage};
+use ss_top::{GenFault, LimitHit, Status, WordsFault, run, tell_memory, tell_usage};
 use std::test::Fail;
 
 const USAGE: &str =
@@ -64,5 +64,29 @@ fn the_two_texts_of_the_program_itself(rt: HostRuntime) -> Result<(), Fail> {
     let mut err = sink(alloc)?;
     tell_usage(&mut err);
     assert_eq!(rt; err.bytes(), USAGE.as_bytes());
+    Ok(())
+}
+
+#[test]
+fn an_error_says_what_is_wrong(rt: HostRuntime) -> Result<(), Fail> {
+    let alloc = rt.alloc();
+    let limit = GenFault::Limit(LimitHit::Names(65_537));
+    for (told, text) in [
+        (
+            format!(in alloc; "{}", WordsFault::Usage)?,
+            "the words are no command",
+        ),
+        (
+            format!(in alloc; "{}", WordsFault::OutOfMemory)?,
+            "out of memory",
+        ),
+        (format!(in alloc; "{limit}")?, "the documents pass a limit"),
+        (
+            format!(in alloc; "{}", GenFault::OutOfMemory)?,
+            "out of memory",
+        ),
+    ] {
+        assert_eq!(rt; told.as_str(), text);
+    }
     Ok(())
 }
