@@ -110,6 +110,23 @@ fn documents_are_gathered_into_the_shards_of_their_terms(rt: HostRuntime) -> Res
 }
 
 #[test]
+fn a_copied_stop_list_stops_what_it_stopped(rt: HostRuntime) -> Result<(), Fail> {
+    let alloc = rt.alloc();
+    let mut totals = Totals::unit(alloc);
+    for (stop, wanted) in [
+        (StopSet::empty(alloc), "the 1;cat 2;"),
+        (StopSet::of(alloc, b"the")?, "cat 2;"),
+    ] {
+        let copy = Item::Stop(stop).copy(alloc)?;
+        assert!(rt; matches!(copy, Item::Stop(_)));
+        let mut item = document(alloc, b"The cat")?;
+        item.apply(alloc, &ItemOp::Split, Some(&copy), &mut totals)?;
+        assert_eq!(rt; listed(alloc, &item)?.as_str(), wanted);
+    }
+    Ok(())
+}
+
+#[test]
 fn what_does_not_fit_changes_nothing(rt: HostRuntime) -> Result<(), Fail> {
     let alloc = rt.alloc();
     let mut totals = Totals::unit(alloc);

@@ -1,158 +1,266 @@
-// Reads and writes that fail, by the numbers of the calls: the status, what `out` holds then, and what
-// is told. No clause says which calls of a shelf or a sink in memory fail.
-use crate::tests::{files_of, shelf_of, sink, words_of};
-use ss_base::{MemShelf, MemSink};
+// What fails outside, by the numbers of the calls, and what passes a limit, as one table: the status,
+// what `out` holds then, and what is told. No clause says which calls of a shelf or a sink in memory fail.
+use crate::tests::words_of;
+use ss_base::{MemShelf, MemSink, Text};
 use ss_top::{LimitHit, Status, Which, run};
 use std::alloc::Global;
 use std::test::Fail;
 
-const TWO: &[(&str, &[u8])] = &[("p", b"b a"), ("q", b"a")];
+// What a name holds: so many times these bytes.
+type Held = (&'static str, usize, &'static [u8]);
+
+// The calls that fail of the shelf, of `out` and of `err`. The shelf gives 4,096 bytes at a time, `out`
+// takes 8.
+type Failing = (&'static [u64], &'static [u64], &'static [u64]);
+
+// Two documents. Each takes three calls: the open, a read of its bytes and a read of its end.
+const TWO: &[&str] = &["index", "p", "q"];
+
+const TWO_NAMES: &[Held] = &[("p", 1, b"b a"), ("q", 1, b"a")];
 
 const TWO_INDEXED: &str = "documents 2\nwords 3\nlongest 1\nterms 2\na 2 1:2;2:1\nb 1 1:1\n";
 
-const STOPPED: &[(&str, &[u8])] = &[("s", b"The"), ("d", b"the cat the")];
+const NO_P: &str = "ssidx: cannot read p\n";
 
-// Each document takes three calls: the open, a read of its bytes and a read of its end.
-const READS: [(&[&str], &[(&str, &[u8])], u64, Status, &str, &str); 8] = [
+const NO_Q: &str = "ssidx: cannot read q\n";
+
+// One document, whose text goes out in seven writes.
+const ONE: &[&str] = &["index", "-"];
+
+const ONE_NAME: &[Held] = &[("-", 1, b"a b A\n")];
+
+const ONE_INDEXED: &str = "documents 1\nwords 3\nlongest 1\nterms 2\na 2 1:1,3\nb 1 1:2\n";
+
+const NO_OUT: &str = "ssidx: cannot write\n";
+
+const STOP: &[&str] = &["index", "--stop", "s", "d"];
+
+const GEN: &[&str] = &["gen", "1", "8388608", "0"];
+
+const SCRIPT: &[&str] = &["script", "s"];
+
+type Case = (
+    &'static [&'static str],
+    &'static [Held],
+    Failing,
+    Status,
+    &'static str,
+    &'static str,
+);
+
+const CASES: [Case; 22] = [
     (
-        &["index", "p", "q"],
         TWO,
-        0,
+        TWO_NAMES,
+        (&[0], &[], &[]),
         Status::ReadFault(Which::Name(1)),
         "",
-        "ssidx: cannot read p\n",
+        NO_P,
     ),
     (
-        &["index", "p", "q"],
         TWO,
-        1,
+        TWO_NAMES,
+        (&[1], &[], &[]),
         Status::ReadFault(Which::Name(1)),
         "",
-        "ssidx: cannot read p\n",
+        NO_P,
     ),
     (
-        &["index", "p", "q"],
         TWO,
-        2,
+        TWO_NAMES,
+        (&[2], &[], &[]),
         Status::ReadFault(Which::Name(1)),
         "",
-        "ssidx: cannot read p\n",
+        NO_P,
     ),
     (
-        &["index", "p", "q"],
         TWO,
-        3,
+        TWO_NAMES,
+        (&[3], &[], &[]),
         Status::ReadFault(Which::Name(2)),
         "",
-        "ssidx: cannot read q\n",
+        NO_Q,
     ),
     (
-        &["index", "p", "q"],
         TWO,
-        4,
+        TWO_NAMES,
+        (&[4], &[], &[]),
         Status::ReadFault(Which::Name(2)),
         "",
-        "ssidx: cannot read q\n",
+        NO_Q,
     ),
     (
-        &["index", "p", "q"],
         TWO,
-        5,
+        TWO_NAMES,
+        (&[5], &[], &[]),
         Status::ReadFault(Which::Name(2)),
         "",
-        "ssidx: cannot read q\n",
+        NO_Q,
     ),
     // No seventh call is made.
-    (&["index", "p", "q"], TWO, 6, Status::Done, TWO_INDEXED, ""),
     (
-        &["index", "--stop", "s", "d"],
-        STOPPED,
-        0,
+        TWO,
+        TWO_NAMES,
+        (&[6], &[], &[]),
+        Status::Done,
+        TWO_INDEXED,
+        "",
+    ),
+    (
+        ONE,
+        ONE_NAME,
+        (&[], &[0], &[]),
+        Status::WriteFault,
+        "",
+        NO_OUT,
+    ),
+    (
+        ONE,
+        ONE_NAME,
+        (&[], &[1], &[]),
+        Status::WriteFault,
+        "document",
+        NO_OUT,
+    ),
+    (
+        ONE,
+        ONE_NAME,
+        (&[], &[2], &[]),
+        Status::WriteFault,
+        "documents 1\nword",
+        NO_OUT,
+    ),
+    (
+        ONE,
+        ONE_NAME,
+        (&[], &[3], &[]),
+        Status::WriteFault,
+        "documents 1\nwords 3\nlong",
+        NO_OUT,
+    ),
+    (
+        ONE,
+        ONE_NAME,
+        (&[], &[4], &[]),
+        Status::WriteFault,
+        "documents 1\nwords 3\nlongest 1\nte",
+        NO_OUT,
+    ),
+    (
+        ONE,
+        ONE_NAME,
+        (&[], &[5], &[]),
+        Status::WriteFault,
+        "documents 1\nwords 3\nlongest 1\nterms 2\na ",
+        NO_OUT,
+    ),
+    (
+        ONE,
+        ONE_NAME,
+        (&[], &[6], &[]),
+        Status::WriteFault,
+        "documents 1\nwords 3\nlongest 1\nterms 2\na 2 1:1,3\n",
+        NO_OUT,
+    ),
+    (
+        ONE,
+        ONE_NAME,
+        (&[], &[7], &[]),
+        Status::Done,
+        ONE_INDEXED,
+        "",
+    ),
+    (
+        STOP,
+        &[("s", 1, b"The"), ("d", 1, b"the cat the")],
+        (&[0], &[], &[]),
         Status::ReadFault(Which::Stop),
         "",
         "ssidx: cannot read s\n",
     ),
+    // The status hangs on nothing that is told.
+    (&[], &[], (&[], &[], &[0]), Status::Usage, "", ""),
+    (
+        TWO,
+        TWO_NAMES,
+        (&[3], &[], &[0]),
+        Status::ReadFault(Which::Name(2)),
+        "",
+        "",
+    ),
+    (
+        GEN,
+        &[],
+        (&[], &[], &[0]),
+        Status::Limit(LimitHit::Document(1)),
+        "",
+        "",
+    ),
+    // Limits.
+    (
+        SCRIPT,
+        &[("s", 1_048_577, b"\n")],
+        (&[], &[], &[]),
+        Status::Limit(LimitHit::ScriptBytes),
+        "",
+        "ssidx: limit: script is over 1048576 bytes\n",
+    ),
+    (
+        STOP,
+        &[("s", 8_388_609, b" "), ("d", 1, b"a")],
+        (&[], &[], &[]),
+        Status::Limit(LimitHit::StopBytes),
+        "",
+        "ssidx: limit: stop list is over 8388608 bytes\n",
+    ),
+    (
+        GEN,
+        &[],
+        (&[], &[], &[]),
+        Status::Limit(LimitHit::Document(1)),
+        "",
+        "ssidx: limit: document 1 is over 8388608 bytes\n",
+    ),
 ];
 
+fn files_of(alloc: Global, names: &[Held]) -> Result<Vec<(Text, Vec<u8>)>, Fail> {
+    let mut files = Vec::new(alloc);
+    for (name, times, bytes) in names {
+        files.push((Text::of(alloc, name)?, bytes.repeat(alloc, *times)?))?;
+    }
+    Ok(files)
+}
+
 #[test]
-fn a_failing_read_names_the_input(rt: HostRuntime) -> Result<(), Fail> {
+fn what_fails_or_is_too_much_ends_the_run_and_is_told(rt: HostRuntime) -> Result<(), Fail> {
     let alloc = rt.alloc();
-    for (words, files, call, ends, printed, told) in &READS {
+    for (place, (words, names, failing, ends, printed, told)) in CASES.iter().enumerate() {
         let words = words_of(alloc, words)?;
-        let mut fail = Vec::new(alloc);
-        fail.push(*call)?;
-        let mut shelf = MemShelf::new(files_of(alloc, files)?, fail, 4096);
-        let mut out = sink(alloc)?;
-        let mut err = sink(alloc)?;
+        let (reads, writes, tells) = failing;
+        let mut shelf = MemShelf::new(files_of(alloc, names)?, reads.to_vec(alloc)?, 4096);
+        let mut out = MemSink::new(alloc, 8192, writes.to_vec(alloc)?, 8)?;
+        let mut err = MemSink::new(alloc, 8192, tells.to_vec(alloc)?, 4096)?;
         let status = run(&rt, alloc, &words, &mut shelf, &mut out, &mut err);
-        assert_eq!(rt; status, *ends, "at {call}");
-        assert_eq!(rt; out.bytes(), printed.as_bytes(), "at {call}");
-        assert_eq!(rt; err.bytes(), told.as_bytes(), "at {call}");
+        assert_eq!(rt; status, *ends, "case {place}");
+        assert_eq!(rt; out.bytes(), printed.as_bytes(), "case {place}");
+        assert_eq!(rt; err.bytes(), told.as_bytes(), "case {place}");
     }
     Ok(())
 }
 
 #[test]
-fn a_failing_write_leaves_what_was_written(rt: HostRuntime) -> Result<(), Fail> {
+fn a_script_ends_as_it_does_where_nothing_can_be_told(rt: HostRuntime) -> Result<(), Fail> {
     let alloc = rt.alloc();
-    let words = words_of(alloc, &["index", "-"])?;
-    let text = b"documents 1\nwords 3\nlongest 1\nterms 2\na 2 1:1,3\nb 1 1:2\n";
-    // Seven writes of 8 bytes do.
-    for call in 0..7usize {
-        let mut shelf = shelf_of(alloc, b"a b A\n".to_vec(alloc)?, &[], 4096)?;
-        let mut fail = Vec::new(alloc);
-        fail.push(call as u64)?;
-        let mut out = MemSink::new(alloc, 8192, fail, 8)?;
-        let mut err = sink(alloc)?;
+    for (script, code) in [(b"jump\n", 8), (b"join\n", 7)] {
+        let words = words_of(alloc, SCRIPT)?;
+        let files = files_of(alloc, &[("s", 1, script.as_slice())])?;
+        let mut shelf = MemShelf::new(files, Vec::new(alloc), 4096);
+        let mut out = MemSink::new(alloc, 8192, Vec::new(alloc), 8)?;
+        let mut err = MemSink::new(alloc, 8192, vec![in alloc; 0]?, 4096)?;
         let status = run(&rt, alloc, &words, &mut shelf, &mut out, &mut err);
-        assert_eq!(rt; status, Status::WriteFault, "at {call}");
-        assert_eq!(rt; out.bytes(), &text[..8 * call], "at {call}");
-        assert_eq!(rt;
-            err.bytes(),
-            b"ssidx: cannot write\n".as_slice(),
-            "at {call}"
-        );
+        assert_eq!(rt; status.code(), code);
+        assert_eq!(rt; out.bytes(), b"".as_slice());
+        assert_eq!(rt; err.bytes(), b"".as_slice());
     }
-    let mut shelf = shelf_of(alloc, b"a b A\n".to_vec(alloc)?, &[], 4096)?;
-    let mut out = MemSink::new(alloc, 8192, vec![in alloc; 7]?, 8)?;
-    let mut err = sink(alloc)?;
-    let status = run(&rt, alloc, &words, &mut shelf, &mut out, &mut err);
-    assert_eq!(rt; status, Status::Done);
-    assert_eq!(rt; out.bytes(), text.as_slice());
-    assert_eq!(rt; err.bytes(), b"".as_slice());
-    Ok(())
-}
-
-// What words end with over this script, where the error stream fails at its first write.
-fn ends_untold<R>(rt: R, alloc: Global, words: &[&str], script: &[u8]) -> Result<Status, Fail>
-where
-    R: std::thread::Threads + std::sync::Wait + Copy + Send + Sync + 'static,
-{
-    let words = words_of(alloc, words)?;
-    let mut shelf = shelf_of(alloc, script.to_vec(alloc)?, &[], 4096)?;
-    let mut out = sink(alloc)?;
-    let mut err = MemSink::new(alloc, 8192, vec![in alloc; 0]?, 8)?;
-    Ok(run(&rt, alloc, &words, &mut shelf, &mut out, &mut err))
-}
-
-#[test]
-fn no_status_hangs_on_the_error_stream(rt: HostRuntime) -> Result<(), Fail> {
-    let alloc = rt.alloc();
-    assert_eq!(rt; ends_untold(rt, alloc, &[], b"")?, Status::Usage);
-    let limit = Status::Limit(LimitHit::Names(65537));
-    assert_eq!(rt;
-        ends_untold(rt, alloc, &["gen", "65537", "1", "0"], b"")?,
-        limit
-    );
-    let missing = Status::ReadFault(Which::Name(1));
-    assert_eq!(rt; ends_untold(rt, alloc, &["index", "a"], b"")?, missing);
-    assert_eq!(rt;
-        ends_untold(rt, alloc, &["script", "-"], b"jump\n")?.code(),
-        8
-    );
-    assert_eq!(rt;
-        ends_untold(rt, alloc, &["script", "-"], b"join\n")?.code(),
-        7
-    );
     Ok(())
 }
