@@ -13,43 +13,44 @@ fn postings_come_back_in_order(rt: HostRuntime) -> Result<(), Fail> {
         assert_eq!(rt; pairs.as_slice(), [(1, 1), (1, 3), (4, 2)].as_slice());
     }
     assert_eq!(rt; postings.documents(), 2);
+    assert_eq!(rt;
+        postings.encode(alloc)?.as_slice(),
+        [1, 1, 2, 0, 3, 2, 0].as_slice()
+    );
     let shown = format!(in alloc; "{postings:?}")?;
     assert_eq!(rt; shown.as_str(), "[(1, 1), (1, 3), (4, 2)]");
     Ok(())
 }
 
-// The bytes of each list, and the list of those bytes.
+// The bytes of each list, with its number of documents and its pairs.
 #[test]
 fn lists_are_spelt_as_the_format_says(rt: HostRuntime) -> Result<(), Fail> {
     let alloc = rt.alloc();
-    let cases: [(&[(u32, &[u32])], &[u8]); 9] = [
-        (&[], &[]),
-        (&[(1, &[1, 3])], &[1, 1, 2, 0]),
-        (&[(1, &[2]), (2, &[1])], &[1, 2, 0, 1, 1, 0]),
-        (&[(128, &[1])], &[0x80, 1, 1, 0]),
-        (&[(127, &[128])], &[0x7F, 0x80, 1, 0]),
-        (&[(1, &[16383, 16384])], &[1, 0xFF, 0x7F, 1, 0]),
-        (&[(16384, &[16384])], &[0x80, 0x80, 1, 0x80, 0x80, 1, 0]),
+    let cases: [(u64, &[(u32, u32)], &[u8]); 9] = [
+        (0, &[], &[]),
+        (1, &[(1, 1), (1, 3)], &[1, 1, 2, 0]),
+        (2, &[(1, 2), (2, 1)], &[1, 2, 0, 1, 1, 0]),
+        (1, &[(128, 1)], &[0x80, 1, 1, 0]),
+        (1, &[(127, 128)], &[0x7F, 0x80, 1, 0]),
+        (1, &[(1, 16383), (1, 16384)], &[1, 0xFF, 0x7F, 1, 0]),
+        (1, &[(16384, 16384)], &[0x80, 0x80, 1, 0x80, 0x80, 1, 0]),
         (
-            &[(u32::MAX, &[u32::MAX])],
+            1,
+            &[(u32::MAX, u32::MAX)],
             &[0xFF, 0xFF, 0xFF, 0xFF, 15, 0xFF, 0xFF, 0xFF, 0xFF, 15, 0],
         ),
         (
-            &[(1, &[1, u32::MAX])],
+            1,
+            &[(1, 1), (1, u32::MAX)],
             &[1, 1, 0xFE, 0xFF, 0xFF, 0xFF, 15, 0],
         ),
     ];
-    for (list, bytes) in cases {
-        let mut postings = Postings::new(alloc);
-        for (document, positions) in list {
-            postings.append(*document, positions)?;
-        }
-        assert_eq!(rt; postings.encode(alloc)?.as_slice(), bytes, "at {bytes:?}");
-        let again = decode(alloc, bytes)?;
+    for (documents, listed, bytes) in cases {
+        let postings = decode(alloc, bytes)?;
         let pairs: Vec<(u32, u32)> = postings.iter().collect(alloc)?;
-        let others: Vec<(u32, u32)> = again.iter().collect(alloc)?;
-        assert_eq!(rt; others.as_slice(), pairs.as_slice(), "at {bytes:?}");
-        assert_eq!(rt; again.documents(), postings.documents(), "at {bytes:?}");
+        assert_eq!(rt; pairs.as_slice(), listed, "at {bytes:?}");
+        assert_eq!(rt; postings.documents(), documents, "at {bytes:?}");
+        assert_eq!(rt; postings.encode(alloc)?.as_slice(), bytes, "at {bytes:?}");
     }
     Ok(())
 }
