@@ -10,17 +10,20 @@ ghost use Rattle.postings.specs.declared.decoding.PostingsFault.TheVariants as f
 use crate::Postings;
 use ss_base::OutOfMemory;
 use std::alloc::{AllocFailed, Global};
+use thiserror::Error;
 
 /// Why bytes were not read as postings.
-#[derive(Clone, Copy, Debug, PartialEq, Eq)]
+#[derive(Clone, Copy, Debug, PartialEq, Eq, Error)]
 pub enum PostingsFault {
     /// The bytes spell no list.
+    #[error("no postings from byte {at} on")]
     BadPostings {
         /// Up to this place they begin a list. It is their length, or the first place at which
         /// another byte would have to stand.
         at: usize,
     },
     /// There was no memory.
+    #[error("out of memory")]
     OutOfMemory,
 }
 

@@ -99,3 +99,13 @@ fn other_bytes_are_refused_at_the_place_of_the_fault(rt: HostRuntime) -> Result<
     }
     Ok(())
 }
+
+#[test]
+fn a_fault_says_where_the_postings_end(rt: HostRuntime) -> Result<(), Fail> {
+    let alloc = rt.alloc();
+    let bad = format!(in alloc; "{}", PostingsFault::BadPostings { at: 3 })?;
+    assert_eq!(rt; bad.as_str(), "no postings from byte 3 on");
+    let memory = format!(in alloc; "{}", PostingsFault::OutOfMemory)?;
+    assert_eq!(rt; memory.as_str(), "out of memory");
+    Ok(())
+}
