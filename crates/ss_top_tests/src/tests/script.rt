@@ -6,7 +6,7 @@ use std::alloc::Global;
 use std::test::Fail;
 
 // A script, and what a run over it writes to `out` and to `err` and ends with.
-const SCRIPTS: [(&str, &str, &str, u8); 24] = [
+const SCRIPTS: [(&str, &str, &str, u8); 27] = [
     (
         "object x 5\nisolate\ndo x add 3\ndo x mul 2\njoin\nshow x\n",
         "x 16\n",
@@ -92,6 +92,25 @@ const SCRIPTS: [(&str, &str, &str, u8); 24] = [
         "x 12\n",
         "",
         0,
+    ),
+    // Showing an object frees it of its set, but not of its readers.
+    (
+        "object x 5 own\nisolate\ndo x add 1 in 1\nshow x\ndo x mul 2 in 2\nshow x\njoin\n",
+        "x 6\nx 12\n",
+        "",
+        0,
+    ),
+    (
+        "object x 2\nobject y 3\nisolate\ndo y add 1\nshow y\nmix x y\njoin\nshow x\n",
+        "y 4\nx 66\n",
+        "",
+        0,
+    ),
+    (
+        "object x 2\nobject y 3\nisolate\nmix x y\nshow y\ndo y add 1\n",
+        "y 3\n",
+        "ssidx: line 6: object y is read-shared\n",
+        7,
     ),
     // What was shown before the break is printed, and what stands behind it isn't.
     (
