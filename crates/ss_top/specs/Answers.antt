@@ -26,17 +26,17 @@ use Rattle.ss_top.specs.Limits.{limit_passed, limit_over}
 use Rattle.ss_top.specs.Generated.{generated_documents, generated_limit}
 
 -- a limit that is passed, or a text to print, or the fault of an input's text, or a text to print
--- and the line and the refusal at which it stops
+-- and the line and the refusal at which it breaks off
 pub data Answer : Type 0 where
   over_limit : LimitHit → Answer
   prints : List ℕ → Answer
   has_fault : TextFault → Answer
-  stops : List ℕ → ℕ → Refusal → Answer
+  breaks_off : List ℕ → ℕ → Refusal → Answer
 
 -- the text that an answer prints, if it prints one
 abbrev pub text_printed : Answer → Option (List ℕ)
 text_printed (prints text) = Some text
-text_printed (stops text line refusal) = Some text
+text_printed (breaks_off text line refusal) = Some text
 text_printed _ = None
 
 -- a limit that is met, or else the other answer
@@ -44,10 +44,10 @@ abbrev pub or_limit : Option LimitHit → Option Answer → Option Answer
 or_limit (Some hit) answer = Some (over_limit hit)
 or_limit None answer = answer
 
--- a text to print, which stops where it stops
+-- a text to print, which may break off
 abbrev pub printed : List ℕ → Option (ℕ × Refusal) → Answer
 printed text None = prints text
-printed text (Some (line, refusal)) = stops text line refusal
+printed text (Some (line, refusal)) = breaks_off text line refusal
 
 -- what a script shows, or its fault
 abbrev pub shown_answer : Result ShownRecord ScriptFault → Answer

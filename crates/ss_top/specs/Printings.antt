@@ -12,16 +12,16 @@ use Rattle.ss_top.specs.declared.generate.GenFault.TheVariants as fault
 use Rattle.script_lang.specs.declared.fault.ParseFault.{ParseFault}
 use Rattle.script_lang.specs.declared.fault.ParseFault.TheVariants as parse_fault
 use Rattle.ss_top.specs.declared.status.TextFault.TheVariants as text_fault
-use Rattle.ss_top.specs.Answers.{Answer, over_limit, prints, has_fault, stops}
+use Rattle.ss_top.specs.Answers.{Answer, over_limit, prints, has_fault, breaks_off}
 
 -- the answer of a text that may stop
-abbrev pub stopping : List ℕ → Option Broken → Answer
-stopping text None = prints text
-stopping text (Some broken) = stops text broken.line broken.refusal
+abbrev pub broken_off : List ℕ → Option Broken → Answer
+broken_off text None = prints text
+broken_off text (Some broken) = breaks_off text broken.line broken.refusal
 
 -- the answer for which a printed text stands
 abbrev pub printed_answer : Printed → Answer
-printed_answer printed = stopping printed.text.items printed.broken
+printed_answer printed = broken_off printed.text.items printed.broken
 
 -- the result of a command that was called for this answer and left this of its last input. A read
 -- fault has a cause of its own, and want of memory has none

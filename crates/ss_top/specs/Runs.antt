@@ -14,7 +14,7 @@ use Rattle.ss_top.specs.declared.status.TextFault.{TextFault}
 use Rattle.ss_top.specs.declared.status.TextFault.TheVariants as fault
 use Rattle.ss_top.specs.declared.command.Command.{Command}
 use Rattle.ss_top.specs.declared.command.Command.TheVariants.{Script}
-use Rattle.ss_top.specs.Answers.{Answer, over_limit, prints, has_fault, stops, text_printed}
+use Rattle.ss_top.specs.Answers.{Answer, over_limit, prints, has_fault, breaks_off, text_printed}
 use Rattle.ss_top.specs.Answers.{texts_held}
 use Rattle.ss_top.specs.Inputs.{inputs_for}
 use Rattle.ss_top.specs.Texts.{status_text, names_in}
@@ -45,10 +45,10 @@ pub record PrintsFront (answer : Option Answer) (before after left : Option (Lis
 
 -- out gained what is printed up to the break that was called for, and nothing is left of the last
 -- input
-pub record Stops (answer : Option Answer) (line : ℕ) (refusal : Refusal)
+pub record BreaksOff (answer : Option Answer) (line : ℕ) (refusal : Refusal)
     (before after left : Option (List ℕ)) : Type 0 where
   pub text : List ℕ
-  pub expected : answer ≡ Some (stops text line refusal)
+  pub expected : answer ≡ Some (breaks_off text line refusal)
   pub gained : Appends before after text
   pub at_end : left ≡ Some []
 
@@ -60,7 +60,7 @@ Meets answer Done before after left = PrintsAll answer before after left
 Meets answer WriteFault before after left = PrintsFront answer before after left
 Meets answer (Limit hit) before after left = answer ≡ Some (over_limit hit)
 Meets answer (Refused line refusal) before after left =
-    Stops answer line refusal before after left
+    BreaksOff answer line refusal before after left
 Meets answer (Text fault) before after left = answer ≡ Some (has_fault fault)
 Meets answer Usage before after left = answer ≡ None
 Meets answer (ReadFault which) before after left = ⊤

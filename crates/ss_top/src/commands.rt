@@ -28,7 +28,7 @@ use std::alloc::Global;
 use std::sync::Wait;
 use std::thread::Threads;
 
-/// What a command prints, and where a script stops, if it does.
+/// What a command prints, and where a script breaks off, if it does.
 #[derive(Drop)]
 pub(crate) struct Printed {
     pub text: Vec<u8>,
@@ -115,7 +115,7 @@ where
 }
 
 /// The text that a command prints.
-pub(crate) fn text_of<R, L: Shelf>(
+pub(crate) fn printed_by<R, L: Shelf>(
     rt: &R,
     alloc: Global,
     shelf: &mut L,

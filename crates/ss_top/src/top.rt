@@ -13,7 +13,7 @@ ghost use Rattle.ss_top.specs.Runs.{CanBreak, CanHave, Meets, Completes, IsWritt
 ghost use Rattle.ss_top.specs.Statuses.{has_written, has_read_all};
 ghost use Rattle.ss_top.specs.Texts.{names_in};
 
-use crate::commands::{Broken, Printed, text_of};
+use crate::commands::{Broken, Printed, printed_by};
 use crate::no_text::NoText;
 use crate::status::Ended;
 use crate::tell::{tell_memory, tell_status, tell_usage};
@@ -107,7 +107,7 @@ where
     ensures sure { IfCalledFor (L.contents shelf.old) (Some command.now) (λ answer.
         IsWritten answer result.status (K.sure out.old) (K.faults out.old) (K.faults out.new)) }
 {
-    match text_of(rt, alloc, shelf, command) {
+    match printed_by(rt, alloc, shelf, command) {
         Ok(printed) => print(out, printed),
         Err(NoText::ReadFault(which)) => ended(Status::ReadFault(which)),
         Err(NoText::Limit(hit)) => ended(Status::Limit(hit)),

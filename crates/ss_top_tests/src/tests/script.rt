@@ -219,6 +219,27 @@ fn a_script_that_is_not_there_is_named(rt: HostRuntime) -> Result<(), Fail> {
 }
 
 #[test]
+fn a_bad_line_is_an_error_that_says_so(rt: HostRuntime) -> Result<(), Fail> {
+    let alloc = rt.alloc();
+    let words = words_of(alloc, &["script", "s"])?;
+    let mut shelf = script_shelf(alloc, b"total\njump\n".to_vec(alloc)?)?;
+    let status = run(
+        &rt,
+        alloc,
+        &words,
+        &mut shelf,
+        &mut sink(alloc)?,
+        &mut sink(alloc)?,
+    );
+    let told = match status {
+        Status::Text(fault) => format!(in alloc; "{fault}")?,
+        _ => String::new(alloc),
+    };
+    assert_eq!(rt; told.as_str(), "line 2: unknown command");
+    Ok(())
+}
+
+#[test]
 fn a_failed_write_comes_before_a_break(rt: HostRuntime) -> Result<(), Fail> {
     let alloc = rt.alloc();
     let words = words_of(alloc, &["script", "-"])?;

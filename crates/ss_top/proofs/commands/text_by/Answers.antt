@@ -4,7 +4,7 @@ use Rattle.std.proofs.lemmas.List.{length-map}
 use Rattle.index_definitions.specs.IndexText.{index_text}
 use Rattle.ss_top.specs.declared.command.Command.TheVariants.{Index}
 use Rattle.ss_top.specs.Answers.{answer_after, prints}
-use Rattle.ss_top.specs.Printings.{printed_answer, stopping}
+use Rattle.ss_top.specs.Printings.{printed_answer, broken_off}
 use Rattle.ss_top.proofs.InputsLemmas.{Fit, Fit-index, Fit-index-stop, removed}
 use Rattle.ss_top.proofs.commands.text_by.Goals as goal
 
@@ -102,7 +102,7 @@ returns-in_ok-index_text-in-None-clause-answers g c =
     let fit = Fit-index _ texts (subst (λ k. Fit k texts) is
     (c.requires.can, count ∙ c.requires.count, c.requires.asked, c.requires.within)) in
     let same : printed_answer c.whole.result ≡ prints (index_text texts []) =
-    ap₂ (λ text broken. stopping text.items broken) c.whole.ensures.text c.whole.ensures.broken
+    ap₂ (λ text broken. broken_off text.items broken) c.whole.ensures.text c.whole.ensures.broken
     ∙ ap prints (c.in_ok-index_text-in-None.ensures
     ∙ ap (index_text texts) c.new-stop.ensures.items) in (
       subst (λ k. answer_after (Some k) texts ≡ Some (printed_answer c.whole.result)) (sym is)

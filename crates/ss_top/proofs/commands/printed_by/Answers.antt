@@ -6,7 +6,7 @@ use Rattle.ss_top.specs.Inputs.{inputs_of}
 use Rattle.ss_top.specs.Printings.{Answers}
 use Rattle.ss_top.specs.Readings.{IfCalledFor, left_of}
 use Rattle.ss_top.proofs.RunsLemmas.{Answers-failed, Answers-read}
-use Rattle.ss_top.proofs.commands.text_of.Goals as goal
+use Rattle.ss_top.proofs.commands.printed_by.Goals as goal
 
 pub returns-in_err-texts-clause-answers : goal.returns-in_err-texts-clause-answers
 returns-in_err-texts-clause-answers g c =
