@@ -1,0 +1,5 @@
+pub mod pieces
+pub mod ascii
+pub mod lines
+pub mod reading
+mod worked

@@ -1,0 +1,3 @@
+pub mod LineFeedLemmas
+pub mod LineEndLemmas
+pub mod RestartLemmas

@@ -1,0 +1,3 @@
+pub mod FrontLemmas
+pub mod BrokenLemmas
+pub mod LossyLemmas

@@ -1,0 +1,6 @@
+//! The words of ASCII text, and where the cutting of a text begins anew.
+#![tactic(auto)]
+
+mod laws;
+
+pub use laws::{restart_at_line_end, restart_in_bytes, words_of_ascii};
