@@ -2,4 +2,5 @@ pub mod pieces
 pub mod ascii
 pub mod lines
 pub mod reading
+pub mod places
 mod worked

@@ -1,2 +1,3 @@
 pub mod AsciiWords
 pub mod Laws
+pub mod Places
