@@ -1,4 +1,5 @@
 pub mod FoldLemmas
+pub mod LineLemmas
 pub mod LossyLemmas
 pub mod NumberedLemmas
 pub mod StopSetLemmas

@@ -53,7 +53,7 @@ few_segments rule text =
       few_chars text,
     )
 
-few_words : (text : List ℕ) → length (words text) ≤ length text
+pub few_words : (text : List ℕ) → length (words text) ≤ length text
 few_words text =
     let cuts = word_bounds text in
     omega (

@@ -2,6 +2,7 @@
 #![tactic(auto)]
 
 mod fold;
+mod lines;
 mod stop_set;
 mod terms;
 mod words;

@@ -1,20 +1,26 @@
 // The terms of a text, one at a time.
 ghost use Rattle.std.specs.Prelude.{◌≡◌, ◌≤◌, ◌*◌, [], ◌∷◌, length, string_bytes, IfOk, MatchBool};
+ghost use Rattle.std.specs.Cow.{cow_str_bytes};
 ghost use Rattle.std.specs.Str.Lossy.{utf8_lossy};
 ghost use Rattle.index_definitions.specs.Words.{terms_of_text};
 
 use crate::fold::fold_into;
+use crate::lines::TextWords;
 use ss_base::OutOfMemory;
 use std::alloc::Global;
+use std::borrow::CowStr;
 use std::marker::Model;
-use unicode_segmentation::{UnicodeSegmentation, UnicodeWords};
 
-/// The text that a document's bytes are read as: UTF-8, with U+FFFD for what is malformed.
-pub fn text_of(alloc: Global, bytes: &[u8]) -> Result<String, OutOfMemory>
-    ensures text { IfOk result (λ text. string_bytes text ≡ utf8_lossy bytes.now) }
-    ensures len { IfOk result (λ text. length (string_bytes text) ≤ 3 * length bytes.now) }
+/// The text that a document's bytes are read as: UTF-8, with U+FFFD for what is malformed. Bytes that
+/// are well formed aren't copied, and take no memory.
+pub fn text_of<'a>(alloc: Global, bytes: &'a [u8]) -> Result<CowStr<'a>, OutOfMemory>
+    ensures text { IfOk result (λ text. cow_str_bytes text ≡ utf8_lossy bytes.now) }
+    ensures len { IfOk result (λ text. length (cow_str_bytes text) ≤ 3 * length bytes.now) }
 {
-    Ok(String::from_utf8_lossy(alloc, bytes)?)
+    if let Ok(text) = std::str::from_utf8(bytes) {
+        return Ok(CowStr::Borrowed(text));
+    }
+    Ok(CowStr::Owned(String::from_utf8_lossy(alloc, bytes)?))
 }
 
 /// The terms of a text's words, in order. Contracts see the list of those that are left.
@@ -22,17 +28,16 @@ pub fn text_of(alloc: Global, bytes: &[u8]) -> Result<String, OutOfMemory>
 /// They are read into a buffer that is used again, so that a word by itself takes no memory.
 #[derive(Drop)]
 pub struct Terms<'a> {
-    words: UnicodeWords<'a>,
+    words: TextWords<'a>,
 }
 
 impl<'a> Model for Terms<'a> {
     ghost use Rattle.std.specs.Prelude.{ℕ, List, map};
-    ghost use Rattle.unicode_segmentation.specs.Iter.{unicode_words_left};
     ghost use Rattle.index_definitions.specs.Words.{term_of};
 
     ghost Value = { List (List ℕ) };
 
-    ghost view = { λ terms. map term_of (unicode_words_left terms.words) };
+    ghost view = { λ terms. map term_of terms.words };
 }
 
 impl<'a> Terms<'a> {
@@ -43,7 +48,7 @@ impl<'a> Terms<'a> {
         ensures len { length result ≤ length text.now }
     {
         Terms {
-            words: text.unicode_words(),
+            words: TextWords::new(text),
         }
     }
 
