@@ -1,2 +1,5 @@
+pub mod EpochSetsLemmas
+pub mod LanesLemmas
 pub mod PrintingLemmas
 pub mod TextsLemmas
+pub mod TraceLemmas

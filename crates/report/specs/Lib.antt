@@ -1,1 +1,4 @@
 pub mod Printing
+pub mod Traces
+pub mod TraceLaws
+pub mod Tracing

@@ -53,8 +53,8 @@ pub fn push_term(_: Global, text: &mut Vec<u8>, term: &str) -> Result<(), OutOfM
     pushed
 }
 
-// Appends a number in decimal.
-fn push_number(text: &mut Vec<u8>, number: u64) -> Result<(), OutOfMemory>
+/// Appends a number in decimal.
+pub(crate) fn push_number(text: &mut Vec<u8>, number: u64) -> Result<(), OutOfMemory>
     ensures { OnOk result (text.new.items ≡ text.old.items ++ decimal number) }
 {
     let mut buffer = Buffer::new();
