@@ -1,4 +1,5 @@
 pub mod lines
 pub mod listings
+pub mod schedules
 pub mod shown
 pub mod spellings

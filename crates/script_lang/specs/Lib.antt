@@ -7,4 +7,5 @@ pub mod Commands
 pub mod Listings
 pub mod ScriptCalls
 pub mod ScriptAnswers
+pub mod Schedules
 pub mod Parsing

@@ -4,3 +4,4 @@ pub mod Commands
 pub mod Epochs
 pub mod Parts
 pub mod Reading
+pub mod Schedule

@@ -11,6 +11,7 @@ mod parsing;
 mod parts;
 mod reader;
 mod running;
+mod schedule;
 mod script;
 mod tokens;
 mod word32;
@@ -20,6 +21,7 @@ pub use command::{Command, Placed};
 pub use fault::{ParseFault, ScriptFault, ScriptKind};
 pub use parsing::parse;
 pub use running::{Shown, run_script};
+pub use schedule::{ScheduleStop, parse_schedule};
 pub use script::Script;
 pub use word32::{Act, Deed, Word32};
 

@@ -9,7 +9,7 @@ use crate::reader::Reader;
 use crate::script::Script;
 use std::alloc::Global;
 
-fn is_line_end(byte: u8) -> bool
+pub(crate) fn is_line_end(byte: u8) -> bool
     ensures { result ≡ is_line_end byte }
 {
     byte == b'\n'

@@ -3,12 +3,13 @@
 ghost use Rattle.std.specs.Prelude.{◌≡◌};
 
 use crate::{
-    Act, Deed, ParseFault, Script, ScriptFault, ScriptKind, Shown, Word32, parse, run_script,
+    Act, Deed, ParseFault, ScheduleStop, Script, ScriptFault, ScriptKind, Shown, Word32, parse,
+    parse_schedule, run_script,
 };
 use class_laws::{Class, Reducible, WrapSum, no_reading};
 use delegation::{Call, Plain};
 use execution_definitions::Refusal;
-use ss_base::{ObjectId, OutOfMemory, SetId, limits};
+use ss_base::{Event, Lane, ObjectId, OutOfMemory, SetId, limits};
 use std::alloc::Global;
 use std::sync::Wait;
 use std::test::Fail;
@@ -406,5 +407,42 @@ fn a_script_of_65536_lines_is_shown(rt: HostRuntime) -> Result<(), Fail> {
     let shown = run(&rt, alloc, &text)?;
     assert_eq!(rt; shown.text.as_slice(), b"x 65534\n".as_slice());
     assert_eq!(rt; shown.stopped, None);
+    Ok(())
+}
+
+// The steps of a schedule of bytes that are few enough.
+fn scheduled(alloc: Global, bytes: &[u8]) -> Result<Vec<Event>, ScheduleStop> {
+    if bytes.len() > limits::SCHEDULE_BYTES {
+        return Err(ScheduleStop::OutOfMemory);
+    }
+    parse_schedule(alloc, bytes)
+}
+
+#[test]
+fn schedules_are_read(rt: HostRuntime) -> Result<(), Fail> {
+    let alloc = rt.alloc();
+    let lane_0 = Event::Delegate(Lane(0));
+    let lane_63 = Event::Delegate(Lane(63));
+    let steps = scheduled(alloc, b"p 0 \tp\r\n00\n63")?;
+    let wanted = [Event::Program, lane_0, Event::Program, lane_0, lane_63];
+    assert_eq!(rt; steps.as_slice(), wanted.as_slice());
+    assert!(rt; scheduled(alloc, b" \n")?.is_empty());
+    Ok(())
+}
+
+const BAD_SCHEDULES: [(&str, u32); 5] = [
+    ("p 64", 2),
+    ("063", 1),
+    ("p p\nP p", 3),
+    ("pp", 1),
+    ("p 1 -1 64", 3),
+];
+
+#[test]
+fn the_first_bad_word_is_told(rt: HostRuntime) -> Result<(), Fail> {
+    for (text, number) in &BAD_SCHEDULES {
+        let answer = scheduled(rt.alloc(), text.as_bytes());
+        assert_eq!(rt; answer.err(), Some(ScheduleStop::Word(*number)), "at {text}");
+    }
     Ok(())
 }

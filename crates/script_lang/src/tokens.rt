@@ -35,7 +35,7 @@ fn with_digit(value: u64, digit: u8) -> Option<u64>
 }
 
 // The value of 1 to `most` decimal digits, where it is at most `limit`.
-fn value_within(most: usize, limit: u64, word: &[u8]) -> Option<u64>
+pub(crate) fn value_within(most: usize, limit: u64, word: &[u8]) -> Option<u64>
     ensures { result ≡ value_within most limit word.now }
 {
     if word.is_empty() || word.len() > most {

@@ -25,7 +25,7 @@ impl<'a> Model for Words<'a> {
     ghost invariant = { λ kept. kept.count ≤ 7 };
 }
 
-fn is_blank(byte: u8) -> bool
+pub(crate) fn is_blank(byte: u8) -> bool
     ensures { result ≡ is_blank byte }
 {
     byte == b' ' || byte == b'\t' || byte == b'\r'
