@@ -1,2 +1,3 @@
+pub mod RepliesLemmas
 pub mod RunningLemmas
 pub mod YieldsLemmas

@@ -13,6 +13,7 @@ mod reader;
 mod running;
 mod schedule;
 mod script;
+mod showing;
 mod tokens;
 mod word32;
 mod words;
@@ -23,6 +24,7 @@ pub use parsing::parse;
 pub use running::{Shown, run_script};
 pub use schedule::{ScheduleStop, parse_schedule};
 pub use script::Script;
+pub use showing::shown_by;
 pub use word32::{Act, Deed, Word32};
 
 #[cfg(test)]

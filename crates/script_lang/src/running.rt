@@ -68,8 +68,8 @@ fn push_total(text: &mut Vec<u8>, value: u64) -> Result<(), OutOfMemory>
     push_number(text, value)
 }
 
-// Appends what a command shows with its reply.
-fn push_shown(
+/// Appends what a command shows with its reply.
+pub(crate) fn push_shown(
     text: &mut Vec<u8>,
     script: &Script,
     command: Command,

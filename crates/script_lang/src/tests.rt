@@ -4,10 +4,10 @@ ghost use Rattle.std.specs.Prelude.{◌≡◌};
 
 use crate::{
     Act, Deed, ParseFault, ScheduleStop, Script, ScriptFault, ScriptKind, Shown, Word32, parse,
-    parse_schedule, run_script,
+    parse_schedule, run_script, shown_by,
 };
 use class_laws::{Class, Reducible, WrapSum, no_reading};
-use delegation::{Call, Plain};
+use delegation::{Call, Plain, run_calls};
 use execution_definitions::Refusal;
 use ss_base::{Event, Lane, ObjectId, OutOfMemory, SetId, limits};
 use std::alloc::Global;
@@ -385,6 +385,29 @@ fn run<R: Threads + Wait + Copy + Send + Sync + 'static>(
     Ok(run_script(rt, alloc, &mut plain, &script)?)
 }
 
+// What it shows with the replies that this runtime gave.
+fn run_for_replies<R: Threads + Wait + Copy + Send + Sync + 'static>(
+    rt: &R,
+    alloc: Global,
+    text: &str,
+) -> Result<Shown, ParseFault> {
+    let script = parsed(alloc, text.as_bytes())?;
+    let mut plain = Plain::new(alloc)?;
+    let calls = script.calls(alloc)?;
+    let ran = run_calls(rt, alloc, &mut plain, calls)?;
+    Ok(shown_by(alloc, &script, &ran.replies, ran.stopped)?)
+}
+
+#[test]
+fn replies_show_values_and_the_stop(rt: HostRuntime) -> Result<(), Fail> {
+    for (text, lines, stopped) in &SHOWN {
+        let shown = run_for_replies(&rt, rt.alloc(), text)?;
+        assert_eq!(rt; shown.text.as_slice(), lines.as_bytes(), "at {text}");
+        assert_eq!(rt; shown.stopped, *stopped, "at {text}");
+    }
+    Ok(())
+}
+
 #[test]
 fn scripts_show_values_and_stop(rt: HostRuntime) -> Result<(), Fail> {
     for (text, lines, stopped) in &SHOWN {
@@ -442,7 +465,11 @@ const BAD_SCHEDULES: [(&str, u32); 5] = [
 fn the_first_bad_word_is_told(rt: HostRuntime) -> Result<(), Fail> {
     for (text, number) in &BAD_SCHEDULES {
         let answer = scheduled(rt.alloc(), text.as_bytes());
-        assert_eq!(rt; answer.err(), Some(ScheduleStop::Word(*number)), "at {text}");
+        assert_eq!(rt;
+            answer.err(),
+            Some(ScheduleStop::Word(*number)),
+            "at {text}"
+        );
     }
     Ok(())
 }
