@@ -1,5 +1,5 @@
 // The runtime with delegates as pending lists.
-ghost use Rattle.std.specs.Prelude.{◌≡◌, ◌≤◌, IfOk, OnOk, OnErr, false, true, length};
+ghost use Rattle.std.specs.Prelude.{◌≡◌, ◌≤◌, IfOk, false, length};
 ghost use Rattle.delegation.specs.Runtimes.{IsNew};
 ghost use Rattle.batch_rt.specs.Kept.{IsKept};
 
@@ -31,14 +31,6 @@ pub struct Batch<C: Class + 'static> {
         IsKept store.objects.items store.lanes.items (length store.logs.items) delegates marks },
 }
 
-// That a runtime may be used: every call of one that has failed answers so.
-fn check_usable(has_failed: bool) -> Result<(), OutOfMemory>
-    ensures ok { OnOk result (has_failed ≡ false) }
-    ensures err { OnErr result (has_failed ≡ true) }
-{
-    if has_failed { Err(OutOfMemory) } else { Ok(()) }
-}
-
 impl<C: Class + 'static> Batch<C> {
     ghost use Rattle.batch_rt.specs.Batches.{batch_view};
 
@@ -64,8 +56,11 @@ impl<C: Class + 'static> Runtime<C> for Batch<C> {
 
     ghost seen = { batch_view C.meaning };
 
+    fn has_failed(&self) -> bool {
+        self.has_failed
+    }
+
     fn do_make(&mut self, value: C, by: By) -> Result<ObjectId, Fault> {
-        check_usable(self.has_failed)?;
         match add(&mut self.store, &mut self.marks, value, Some(by)) {
             Ok(object) => Ok(object),
             Err(MarkFault::Refused(refusal)) => Err(Fault::Refused(refusal)),
@@ -77,7 +72,6 @@ impl<C: Class + 'static> Runtime<C> for Batch<C> {
     }
 
     fn do_make_fixed(&mut self, value: C) -> Result<ObjectId, Fault> {
-        check_usable(self.has_failed)?;
         match add(&mut self.store, &mut self.marks, value, None) {
             Ok(object) => Ok(object),
             Err(MarkFault::Refused(refusal)) => Err(Fault::Refused(refusal)),
@@ -89,7 +83,6 @@ impl<C: Class + 'static> Runtime<C> for Batch<C> {
     }
 
     fn do_begin(&mut self) -> Result<(), Fault> {
-        check_usable(self.has_failed)?;
         Ok(self.marks.begin()?)
     }
 
@@ -101,7 +94,6 @@ impl<C: Class + 'static> Runtime<C> for Batch<C> {
         op: C::Op,
         reading: Option<ObjectId>,
     ) -> Result<CallNo, Fault> {
-        check_usable(self.has_failed)?;
         // Of a runtime that failed nothing is said, so the call is marked before it is sent.
         let call = CallNo(self.marks.calls());
         let epoch = self.marks.epoch();
@@ -126,7 +118,6 @@ impl<C: Class + 'static> Runtime<C> for Batch<C> {
         o: ObjectId,
         op: C::Op,
     ) -> Result<(), Fault> {
-        check_usable(self.has_failed)?;
         self.marks.check_write(o)?;
         let Ok(()) = reclaim(&mut self.store, &self.marks, self.delegates, o) else {
             self.has_failed = true;
@@ -141,7 +132,6 @@ impl<C: Class + 'static> Runtime<C> for Batch<C> {
     }
 
     fn do_get<R: Threads + Wait + Copy>(&mut self, _rt: &R, o: ObjectId) -> Result<&C, Fault> {
-        check_usable(self.has_failed)?;
         self.marks.check_get(o)?;
         let Ok(()) = reclaim(&mut self.store, &self.marks, self.delegates, o) else {
             self.has_failed = true;
@@ -156,7 +146,6 @@ impl<C: Class + 'static> Runtime<C> for Batch<C> {
         _rt: &R,
         starter: &S,
     ) -> Result<(), Fault> {
-        check_usable(self.has_failed)?;
         self.marks.end()?;
         let Ok(()) = bring_all_home(&mut self.store, starter) else {
             self.has_failed = true;
@@ -166,7 +155,6 @@ impl<C: Class + 'static> Runtime<C> for Batch<C> {
     }
 
     fn do_total(&mut self) -> Result<&C::Red, Fault> {
-        check_usable(self.has_failed)?;
         self.marks.check_total()?;
         self.marks.note_call(None);
         Ok(&self.store.total)
@@ -180,12 +168,7 @@ impl<C: Class + 'static> Runtime<C> for Batch<C> {
         R: Threads + Wait + Copy,
         S: Starter<Vec<Lane<C>>, Result<Vec<Lane<C>>, AllocError>>,
     >(self, _rt: &R, starter: &S) -> Result<Finished<C>, OutOfMemory> {
-        let Batch {
-            mut store,
-            has_failed,
-            ..
-        } = self;
-        check_usable(has_failed)?;
+        let Batch { mut store, .. } = self;
         bring_all_home(&mut store, starter)?;
         let Store {
             alloc,
@@ -201,6 +184,8 @@ impl<C: Class + 'static> Runtime<C> for Batch<C> {
             logs,
         })
     }
+
+    fn do_give_up<R: Threads + Wait + Copy>(self, _rt: &R) {}
 }
 
 impl<C: Class + 'static> Delegation<C> for Batch<C> {}

@@ -1,5 +1,5 @@
 // The user's side: the ten calls.
-ghost use Rattle.std.specs.Prelude.{◌≡◌, Option, Some, false, ⊤, IfOk, OnOk, slice_get};
+ghost use Rattle.std.specs.Prelude.{◌≡◌, Option, Some, true, false, ⊤, IfOk, OnOk, OnErr, slice_get};
 ghost use Rattle.std.specs.Borrow.{sem, follows_so};
 ghost use mathlib.Core.Option.{none};
 ghost use Rattle.execution_definitions.specs.declared.call.Call.TheVariants as call;
@@ -15,6 +15,14 @@ use ss_base::{CallNo, LaneLog, ObjectId, OutOfMemory};
 use std::alloc::AllocError;
 use std::sync::Wait;
 use std::thread::Threads;
+
+// That a runtime may be called: one that has failed answers each call so.
+fn check_usable(has_failed: bool) -> Result<(), OutOfMemory>
+    ensures ok { OnOk result (has_failed ≡ false) }
+    ensures err { OnErr result (has_failed ≡ true) }
+{
+    if has_failed { Err(OutOfMemory) } else { Ok(()) }
+}
 
 /// The calls of a program on its objects, some of which are delegated.
 ///
@@ -40,6 +48,7 @@ pub trait Delegation<C: Class>: Runtime<C> {
             (call.Make value by) result }
         ensures moves { Self.moves self.old self.new (call.Make value by) (fault_in result) }
     {
+        check_usable(self.has_failed())?;
         self.do_make(value, by)
     }
 
@@ -51,6 +60,7 @@ pub trait Delegation<C: Class>: Runtime<C> {
             (call.MakeFixed value) result }
         ensures moves { Self.moves self.old self.new (call.MakeFixed value) (fault_in result) }
     {
+        check_usable(self.has_failed())?;
         self.do_make_fixed(value)
     }
 
@@ -62,6 +72,7 @@ pub trait Delegation<C: Class>: Runtime<C> {
             call.Begin result }
         ensures moves { Self.moves self.old self.new call.Begin (fault_in result) }
     {
+        check_usable(self.has_failed())?;
         self.do_begin()
     }
 
@@ -82,6 +93,7 @@ pub trait Delegation<C: Class>: Runtime<C> {
         ensures moves { Self.moves self.old self.new
             (call.Delegate o op reading) (fault_in result) }
     {
+        check_usable(self.has_failed())?;
         let starter = StartBy {
             closure: |errand: Errand<Self::Task>| -> Launched<Self::Task> { launch(rt, errand) },
         };
@@ -101,6 +113,7 @@ pub trait Delegation<C: Class>: Runtime<C> {
             (call.Write o op) result }
         ensures moves { Self.moves self.old self.new (call.Write o op) (fault_in result) }
     {
+        check_usable(self.has_failed())?;
         self.do_call(rt, o, op)
     }
 
@@ -116,6 +129,7 @@ pub trait Delegation<C: Class>: Runtime<C> {
         ensures value { IfOk result (λ value.
             slice_get (Self.seen self.old).state.values o.0 ≡ Some value.now) }
     {
+        check_usable(self.has_failed())?;
         self.do_get(rt, o)
     }
 
@@ -130,6 +144,7 @@ pub trait Delegation<C: Class>: Runtime<C> {
             call.End result }
         ensures moves { Self.moves self.old self.new call.End (fault_in result) }
     {
+        check_usable(self.has_failed())?;
         let starter = StartBy {
             closure: |tasks: Vec<Self::Task>| -> Result<Vec<Self::Task>, AllocError> {
                 run_all(rt, tasks)
@@ -149,6 +164,7 @@ pub trait Delegation<C: Class>: Runtime<C> {
 
         ensures total { IfOk result (λ total. total.now ≡ (Self.seen self.old).state.total) }
     {
+        check_usable(self.has_failed())?;
         self.do_total()
     }
 
@@ -171,6 +187,10 @@ pub trait Delegation<C: Class>: Runtime<C> {
         ensures total { IfOk result (λ end. end.total ≡ (Self.seen self).state.total) }
         ensures logs { IfOk result (λ end. end.logs.items ≡ (Self.seen self).sent) }
     {
+        if self.has_failed() {
+            self.do_give_up(rt);
+            return Err(OutOfMemory);
+        }
         let starter = StartBy {
             closure: |tasks: Vec<Self::Task>| -> Result<Vec<Self::Task>, AllocError> {
                 run_all(rt, tasks)

@@ -16,7 +16,7 @@ use ss_base::{CallNo, LaneLog, ObjectId, OutOfMemory, Run};
 use std::alloc::{AllocError, Global};
 use std::sync::Wait;
 use std::thread::Threads;
-use steps::{add, check_usable, log_run, operate, value_of};
+use steps::{add, log_run, operate, value_of};
 
 /// The runtime without delegates: every operation runs at its call, and one log tells of all.
 #[derive(Drop)]
@@ -74,8 +74,11 @@ impl<C: Class> Runtime<C> for Plain<C> {
 
     ghost moves = { plain_moves };
 
+    fn has_failed(&self) -> bool {
+        self.has_failed
+    }
+
     fn do_make(&mut self, value: C, by: By) -> Result<ObjectId, Fault> {
-        check_usable(self.has_failed)?;
         match add(&mut self.values, &mut self.marks, value, Some(by)) {
             Ok(object) => Ok(object),
             Err(MarkFault::Refused(refusal)) => Err(Fault::Refused(refusal)),
@@ -87,7 +90,6 @@ impl<C: Class> Runtime<C> for Plain<C> {
     }
 
     fn do_make_fixed(&mut self, value: C) -> Result<ObjectId, Fault> {
-        check_usable(self.has_failed)?;
         match add(&mut self.values, &mut self.marks, value, None) {
             Ok(object) => Ok(object),
             Err(MarkFault::Refused(refusal)) => Err(Fault::Refused(refusal)),
@@ -99,7 +101,6 @@ impl<C: Class> Runtime<C> for Plain<C> {
     }
 
     fn do_begin(&mut self) -> Result<(), Fault> {
-        check_usable(self.has_failed)?;
         Ok(self.marks.begin()?)
     }
 
@@ -111,7 +112,6 @@ impl<C: Class> Runtime<C> for Plain<C> {
         op: C::Op,
         reading: Option<ObjectId>,
     ) -> Result<CallNo, Fault> {
-        check_usable(self.has_failed)?;
         // Of a runtime that failed nothing is said, so the call is marked before it is run.
         let call = CallNo(self.marks.calls());
         let epoch = self.marks.epoch();
@@ -146,7 +146,6 @@ impl<C: Class> Runtime<C> for Plain<C> {
         o: ObjectId,
         op: C::Op,
     ) -> Result<(), Fault> {
-        check_usable(self.has_failed)?;
         self.marks.check_write(o)?;
         let Ok(()) = operate(self.alloc, &mut self.values, &mut self.total, o, &op, None) else {
             self.has_failed = true;
@@ -157,7 +156,6 @@ impl<C: Class> Runtime<C> for Plain<C> {
     }
 
     fn do_get<R: Threads + Wait + Copy>(&mut self, _rt: &R, o: ObjectId) -> Result<&C, Fault> {
-        check_usable(self.has_failed)?;
         self.marks.check_get(o)?;
         self.marks.note_call(Some(o));
         Ok(value_of(&self.values, o))
@@ -168,12 +166,10 @@ impl<C: Class> Runtime<C> for Plain<C> {
         _rt: &R,
         _starter: &S,
     ) -> Result<(), Fault> {
-        check_usable(self.has_failed)?;
         Ok(self.marks.end()?)
     }
 
     fn do_total(&mut self) -> Result<&C::Red, Fault> {
-        check_usable(self.has_failed)?;
         self.marks.check_total()?;
         self.marks.note_call(None);
         Ok(&self.total)
@@ -192,16 +188,16 @@ impl<C: Class> Runtime<C> for Plain<C> {
             values,
             total,
             logs,
-            has_failed,
             ..
         } = self;
-        check_usable(has_failed)?;
         Ok(Finished {
             values,
             total,
             logs,
         })
     }
+
+    fn do_give_up<R: Threads + Wait + Copy>(self, _rt: &R) {}
 }
 
 impl<C: Class> Delegation<C> for Plain<C> {}

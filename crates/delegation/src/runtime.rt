@@ -1,5 +1,5 @@
 // The implementor's side: the hooks behind the calls of `Delegation`.
-ghost use Rattle.std.specs.Prelude.{◌≡◌, Option, Some, false, ⊤, IfOk, OnOk, slice_get};
+ghost use Rattle.std.specs.Prelude.{◌≡◌, Option, Some, true, false, ⊤, IfOk, slice_get};
 ghost use Rattle.std.specs.Borrow.{sem, follows_so};
 ghost use mathlib.Core.Option.{none};
 ghost use Rattle.execution_definitions.specs.declared.call.Call.{Call};
@@ -10,6 +10,7 @@ ghost use Rattle.jobs.specs.Launches.{HasLaunched};
 ghost use Rattle.delegation.specs.Runtimes.{RuntimeView};
 ghost use Rattle.delegation.specs.Answers.{Answered, fault_in};
 ghost use Rattle.delegation.specs.declared.call.Fault.{Fault};
+ghost use Rattle.delegation.specs.declared.call.Fault.TheVariants as fault;
 
 use crate::call::Fault;
 use class_laws::Class;
@@ -35,7 +36,8 @@ pub struct Finished<C: Class> {
 ///
 /// Each hook owes `Answered`, which speaks of the runtime before the call and after it, and what the
 /// runtime says of itself beyond that (`moves`). What `Answered` says of whole lists of calls is
-/// proved once, at the calls of `Delegation`.
+/// proved once, at the calls of `Delegation`. There it is also asked whether the runtime has failed,
+/// so that hooks are called of one that hasn't.
 ///
 /// Hooks that may need threads are handed a starter, since a method of an impl has no evidence that
 /// a value may go to another thread. `do_delegate` can start one job, which may wait for whatever
@@ -54,20 +56,30 @@ pub trait Runtime<C: Class>: Sized {
     /// none, and then this says nothing.
     ghost moves: { Self → Self → Call C C.Op → Option Fault → Type 0 } = { λ _ _ _ _. Unit {0} };
 
+    /// Whether an earlier call found no memory. Each call is then answered so, and the runtime has to
+    /// count that among its moves.
+    fn has_failed(&self) -> bool
+        ensures failed { result ≡ (seen self.now).has_failed }
+        ensures moves { result ≡ true → (made : Call C C.Op) →
+            moves self.now self.now made (Some fault.OutOfMemory) };
+
     /// Behind `Delegation::make`.
     fn do_make(&mut self, value: C, by: By) -> Result<ObjectId, Fault>
+        requires usable { (seen self.old).has_failed ≡ false }
         ensures answered { Answered C.meaning reply.Made (seen self.old) (seen self.new)
             (call.Make value by) result }
         ensures moves { moves self.old self.new (call.Make value by) (fault_in result) };
 
     /// Behind `Delegation::make_fixed`.
     fn do_make_fixed(&mut self, value: C) -> Result<ObjectId, Fault>
+        requires usable { (seen self.old).has_failed ≡ false }
         ensures answered { Answered C.meaning reply.Made (seen self.old) (seen self.new)
             (call.MakeFixed value) result }
         ensures moves { moves self.old self.new (call.MakeFixed value) (fault_in result) };
 
     /// Behind `Delegation::begin`.
     fn do_begin(&mut self) -> Result<(), Fault>
+        requires usable { (seen self.old).has_failed ≡ false }
         ensures answered { Answered C.meaning (λ _. reply.Done) (seen self.old) (seen self.new)
             call.Begin result }
         ensures moves { moves self.old self.new call.Begin (fault_in result) };
@@ -81,6 +93,7 @@ pub trait Runtime<C: Class>: Sized {
         op: C::Op,
         reading: Option<ObjectId>,
     ) -> Result<CallNo, Fault>
+        requires usable { (seen self.old).has_failed ≡ false }
         requires can { (errand : _) → S.can starter.now errand }
         requires means { (errand : _) (launched : _) → S.gives starter.now errand launched →
             HasLaunched Self.Task.gives errand.job launched }
@@ -95,12 +108,14 @@ pub trait Runtime<C: Class>: Sized {
         o: ObjectId,
         op: C::Op,
     ) -> Result<(), Fault>
+        requires usable { (seen self.old).has_failed ≡ false }
         ensures answered { Answered C.meaning (λ _. reply.Done) (seen self.old) (seen self.new)
             (call.Write o op) result }
         ensures moves { moves self.old self.new (call.Write o op) (fault_in result) };
 
     /// Behind `Delegation::get`.
     fn do_get<R: Threads + Wait + Copy>(&mut self, rt: &R, o: ObjectId) -> Result<&C, Fault>
+        requires usable { (seen self.old).has_failed ≡ false }
         // What is seen once the value isn't lent any more.
         ensures* after { sem 𝓛 (follows_so Self.row Self.row self.entry.ghost_name none
             (λ _ _. ⊤) (λ new. Answered C.meaning (λ value. reply.Value value.now)
@@ -115,6 +130,7 @@ pub trait Runtime<C: Class>: Sized {
         R: Threads + Wait + Copy,
         S: Starter<Vec<Self::Task>, Result<Vec<Self::Task>, AllocError>>,
     >(&mut self, rt: &R, starter: &S) -> Result<(), Fault>
+        requires usable { (seen self.old).has_failed ≡ false }
         requires can { (tasks : _) → S.can starter.now tasks }
         requires means { (tasks : _) (answer : _) → S.gives starter.now tasks answer →
             IfOk answer (λ done. EachGives Self.Task.gives tasks.items done.items) }
@@ -124,6 +140,7 @@ pub trait Runtime<C: Class>: Sized {
 
     /// Behind `Delegation::total`.
     fn do_total(&mut self) -> Result<&C::Red, Fault>
+        requires usable { (seen self.old).has_failed ≡ false }
         // What is seen once the total isn't lent any more.
         ensures* after { sem 𝓛 (follows_so Self.row Self.row self.entry.ghost_name none
             (λ _ _. ⊤) (λ new. Answered C.meaning (λ total. reply.Total total.now)
@@ -141,11 +158,14 @@ pub trait Runtime<C: Class>: Sized {
         R: Threads + Wait + Copy,
         S: Starter<Vec<Self::Task>, Result<Vec<Self::Task>, AllocError>>,
     >(self, rt: &R, starter: &S) -> Result<Finished<C>, OutOfMemory>
+        requires usable { (seen self).has_failed ≡ false }
         requires can { (tasks : _) → S.can starter.now tasks }
         requires means { (tasks : _) (answer : _) → S.gives starter.now tasks answer →
             IfOk answer (λ done. EachGives Self.Task.gives tasks.items done.items) }
-        ensures usable { OnOk result ((seen self).has_failed ≡ false) }
         ensures values { IfOk result (λ end. end.values.items ≡ (seen self).state.values) }
         ensures total { IfOk result (λ end. end.total ≡ (seen self).state.total) }
         ensures logs { IfOk result (λ end. end.logs.items ≡ (seen self).sent) };
+
+    /// Behind `Delegation::finish` of a runtime that failed: ends what it started.
+    fn do_give_up<R: Threads + Wait + Copy>(self, rt: &R);
 }

@@ -1,6 +1,6 @@
 // Steps on what the undelegated runtime keeps. A method of an impl may call these: their bounds
 // have no `Send`.
-ghost use Rattle.std.specs.Prelude.{◌≡◌, ◌<◌, [], ◌∷◌, ◌++◌, true, false, Some, OnOk, OnErr, IfOk, length, slice_get};
+ghost use Rattle.std.specs.Prelude.{◌≡◌, ◌<◌, [], ◌∷◌, ◌++◌, Some, OnOk, IfOk, length, slice_get};
 ghost use Rattle.execution_definitions.specs.Sequential.{operated, value_read};
 ghost use Rattle.partition_check.specs.Answers.{AnswersMake, making};
 ghost use Rattle.partition_check.specs.Judged.{judged};
@@ -13,14 +13,6 @@ use execution_definitions::By;
 use partition_check::{MarkFault, Marks};
 use ss_base::{LaneLog, ObjectId, OutOfMemory, Run};
 use std::alloc::Global;
-
-/// That a runtime may be used: every call of one that has failed answers so.
-pub fn check_usable(has_failed: bool) -> Result<(), OutOfMemory>
-    ensures ok { OnOk result (has_failed ≡ false) }
-    ensures err { OnErr result (has_failed ≡ true) }
-{
-    if has_failed { Err(OutOfMemory) } else { Ok(()) }
-}
 
 /// Makes an object with this value; a read-only one where no serializer is asked for.
 pub fn add<C: Drop>(

@@ -5,7 +5,7 @@ use Rattle.batch_rt.proofs.batch.BatchRuntime.do_begin.Goals as goal
 
 pub returns-clause-answered : goal.returns-clause-answered
 returns-clause-answered g c =
-    let usable = c.in_ok-check_usable.ensures.ok in
+    let usable = c.requires.usable in
     let kept = c.args.self.now.kept usable in
     let store = c.args.self.now.store in
     let idle = kept.idle (closed_from c.args.self.now.marks.is_open _ _

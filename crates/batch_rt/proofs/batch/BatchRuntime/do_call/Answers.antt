@@ -26,7 +26,7 @@ invariant_of-self-2 g c =
 
 pub returns-clause-answered : goal.returns-clause-answered
 returns-clause-answered g c =
-    let usable = c.in_ok-check_usable.ensures.ok in
+    let usable = c.requires.usable in
     let kept = c.args.self.now.kept usable in
     let on = c.in-Ok.ensures.continues in
     let ran = c.in-Ok-operate.ensures in

@@ -26,7 +26,7 @@ invariant_of-self-in-Ok g c =
 
 pub returns-clause-answered : goal.returns-clause-answered
 returns-clause-answered g c =
-    let usable = c.in_ok-check_usable.ensures.ok in
+    let usable = c.requires.usable in
     let kept = c.args.self.now.kept usable in
     let sent = c.in-Ok.ensures in
     let opened = (delegable c.args.self.now.marks c.args.o.0 c.own_set.result

@@ -4,7 +4,7 @@ use Rattle.batch_rt.proofs.batch.BatchRuntime.do_end.Goals as goal
 
 pub returns-clause-answered : goal.returns-clause-answered
 returns-clause-answered g c =
-    let usable = c.in_ok-check_usable.ensures.ok in
+    let usable = c.requires.usable in
     let kept = c.args.self.now.kept usable in
     let on = c.in-Ok.ensures.continues in
     let count = sym on.logs.count ∙ kept.log_count ∙ sym (on.lanes ∙ kept.lane_count) in (

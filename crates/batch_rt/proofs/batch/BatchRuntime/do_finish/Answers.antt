@@ -30,7 +30,7 @@ returns-clause-logs g c =
     let home = c.in_ok-bring_all_home.ensures in
     let on = home.continues in
     let new = c.bring_all_home.new.store in
-    let kept = c.args.self.kept c.in_ok-check_usable.ensures.ok in
+    let kept = c.args.self.kept c.requires.usable in
     sym (idle_sent new.logs.items new.lanes.items home.idle
     (sym on.logs.count ∙ kept.log_count ∙ sym (on.lanes ∙ kept.lane_count)))
     ∙ on.sent

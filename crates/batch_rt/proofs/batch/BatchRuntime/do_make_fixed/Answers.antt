@@ -9,7 +9,7 @@ use Rattle.batch_rt.proofs.batch.BatchRuntime.do_make_fixed.Goals as goal
 
 pub returns-in-Ok-clause-answered : goal.returns-in-Ok-clause-answered
 returns-in-Ok-clause-answered g c =
-    let usable = c.in_ok-check_usable.ensures.ok in
+    let usable = c.requires.usable in
     let kept = c.args.self.now.kept usable in
     let store = c.args.self.now.store in
     let m = g.C.Class.meaning in

@@ -7,7 +7,7 @@ use Rattle.batch_rt.proofs.batch.BatchRuntime.do_total.Goals as goal
 
 pub returns : goal.returns
 returns g c =
-    let usable = c.in_ok-check_usable.ensures.ok in
+    let usable = c.requires.usable in
     let kept = c.args.self.now.kept usable in
     let store = c.args.self.now.store in
     let m = g.C.Class.meaning in
