@@ -6,7 +6,7 @@ use Rattle.batch_rt.specs.declared.lane.Lane.{Lane}
 use Rattle.batch_rt.specs.Lanes.{IsIdle}
 use Rattle.batch_rt.specs.Stores.{IsWhole, Each}
 
-pub record IsKept {C O R : Type 0} (objects : List (Object C)) (lanes : List (Lane C O R))
+pub record HoldsTogether {C O R : Type 0} (objects : List (Object C)) (lanes : List (Lane C O R))
     (logs delegates : ℕ) (marks : Marked) : Type 0 where
   pub whole : IsWhole objects lanes
   pub marked : length objects ≡ length marks.objects

@@ -1,7 +1,7 @@
 // The runtime with delegates as pending lists.
 ghost use Rattle.std.specs.Prelude.{◌≡◌, ◌≤◌, IfOk, false, length};
 ghost use Rattle.delegation.specs.Runtimes.{IsNew};
-ghost use Rattle.batch_rt.specs.Kept.{IsKept};
+ghost use Rattle.batch_rt.specs.Kept.{HoldsTogether};
 
 use crate::calls::{add, into_values, new_store, reclaim, value_of};
 use crate::lane::Lane;
@@ -28,7 +28,8 @@ pub struct Batch<C: Class + 'static> {
     ghost some_delegate: { 1 ≤ delegates },
     ghost at_most_64: { delegates ≤ 64 },
     ghost kept: { has_failed ≡ false →
-        IsKept store.objects.items store.lanes.items (length store.logs.items) delegates marks },
+        HoldsTogether store.objects.items store.lanes.items (length store.logs.items)
+        delegates marks },
 }
 
 impl<C: Class + 'static> Batch<C> {
