@@ -1,15 +1,12 @@
 -- What calls of the runtime need of a store.
-use Rattle.std.proofs.Common.{◌≡◌, ℕ, zero, suc, ◌<◌, ◌≤◌, ◌+◌, replicate, arith, Bool, true, false, Option, Some, None, List, [], ◌∷◌, ◌++◌, map, length, refl, sym, ap, subst}
+use Rattle.std.proofs.Common.{◌≡◌, ℕ, zero, suc, Bool, true, false, Option, Some, None, List, [], ◌∷◌, ◌++◌, length, refl, sym, subst}
 use Rattle.std.specs.Prelude.{Result, Ok, Err, OnOk}
-use Rattle.std.specs.List.{range_with_len}
 use Rattle.std.proofs.lemmas.Option.{same_Some}
 use Rattle.ss_base.specs.declared.ids.SetId.{SetId}
 use Rattle.execution_definitions.specs.declared.refusal.Refusal.{Refusal}
 use Rattle.execution_definitions.specs.Refusals.{first_of, refuse_if}
 use Rattle.execution_definitions.specs.Sets.{lane_of_set}
-use Rattle.execution_definitions.specs.Runs.{sent}
-use Rattle.delegation.proofs.runs.SentLemmas.{lane_of_set-below}
-use Rattle.delegation.specs.Runtimes.{RuntimeView, HasDone, sent_to_lanes}
+use Rattle.delegation.specs.Runtimes.{RuntimeView, HasDone}
 use Rattle.delegation.specs.Answers.{HasCaughtUp}
 use Rattle.batch_rt.specs.declared.store.Store.{Store}
 use Rattle.batch_rt.specs.declared.lane.Lane.{Lane}
@@ -50,30 +47,11 @@ idle_catch store n (Some set) count idle =
     idle_caught_up store.logs.items store.lanes.items (lane_of_set set.0 n) count
     (idle (lane_of_set set.0 n))
 
-pub open_closed : (is_open : Bool) → is_open ≡ true → is_open ≡ false → ⊥
-open_closed true opened closed = absurd cc
-open_closed false opened closed = absurd cc
-
 -- what follows from facts that hold after Ok
 pub on_ok3 : {T E P Q S U : Type 0} (result : Result T E) → OnOk result P → OnOk result Q →
     OnOk result S → (P → Q → S → U) → OnOk result U
 on_ok3 (Ok value) p q s next = next p q s
 on_ok3 (Err error) p q s next = tt
-
--- a set has one of the lanes
-pub lane_within : (set n : ℕ) → 1 ≤ n → lane_of_set set n < n
-lane_within set zero some = absurd (omega arith)
-lane_within set (suc n) some = lane_of_set-below set (suc n)
-
--- nothing was sent before the first call
-none_sent : (n start count : ℕ) →
-    map (sent [] n) (range_with_len start count) ≡ replicate count []
-none_sent n start zero = refl
-none_sent n start (suc count) = ap (λ rest. [] ∷ rest) (none_sent n (start + 1) count)
-
-pub none_sent_to_lanes : (n : ℕ) → 1 ≤ n → replicate n [] ≡ sent_to_lanes [] n
-none_sent_to_lanes zero some = absurd (omega arith)
-none_sent_to_lanes (suc n) some = sym (none_sent (suc n) 0 (suc n))
 
 -- one lane more that is so
 pub each_push : {C O R : Type 0} (P : Lane C O R → Type 0) (lanes : List (Lane C O R))

@@ -1,61 +1,15 @@
 -- A store that comes to the same, step by step.
-use Rattle.std.proofs.Common.{◌≡◌, ℕ, zero, suc, Bool, false, Some, List, [], ◌∷◌, ◌++◌, length, refl, sym, ap, ◌∙◌, subst, append-nil, append_assoc, arith}
-use Rattle.std.specs.Prelude.{slice_get, slice_set}
-use Rattle.std.proofs.lemmas.Option.{same_Some, slice_get_within, slice_get-get_or}
-use Rattle.std.proofs.lemmas.List.{length-set}
+use Rattle.std.proofs.Common.{◌≡◌, ℕ, zero, suc, Bool, false, Some, List, [], ◌∷◌, length, sym, ◌∙◌, subst, refl, arith}
+use Rattle.std.specs.Prelude.{slice_get}
+use Rattle.std.proofs.lemmas.Option.{same_Some}
 use Rattle.ss_base.specs.declared.ids.Run.{Run}
 use Rattle.execution_definitions.specs.Meanings.{Meaning}
-use Rattle.delegation.specs.Runtimes.{IsFront, AreFronts, HasDone}
-use Rattle.delegation.proofs.runs.FrontLemmas.{fronts_same}
+use Rattle.delegation.specs.Runtimes.{IsFront, HasDone}
+use Rattle.delegation.proofs.runs.FrontLemmas.{front_here, fronts_trans}
 use Rattle.batch_rt.specs.declared.store.Store.{Store}
 use Rattle.batch_rt.specs.declared.lane.Lane.{Lane}
 use Rattle.batch_rt.specs.Lanes.{lane_runs}
-use Rattle.batch_rt.specs.Stores.{Continues, IsWholeStore, sent_runs}
-
-front_trans : (a b c : List Run) → IsFront a b → IsFront b c → IsFront a c
-front_trans a b c first second = (
-  first.0 ++ second.0,
-  second.1 ∙ ap (λ runs. runs ++ second.0) first.1 ∙ append_assoc a first.0 second.0,
-)
-
-pub fronts_trans : (a b c : List (List Run)) → AreFronts a b → AreFronts b c → AreFronts a c
-fronts_trans a b c first second = record {
-  count = first.count ∙ second.count;
-  each = λ lane front whole is_front is_whole.
-      let below = slice_get_within a lane front is_front in
-      let count = first.count in
-      let middle = slice_get-get_or b lane front (omega (arith, below, count)) in
-      front_trans front _ whole (first.each lane front _ is_front middle)
-      (second.each lane _ whole middle is_whole);
-}
-
-front_here : (a b rest : List Run) → Some a ≡ Some b → IsFront a (b ++ rest)
-front_here a b rest same = (rest, ap (λ runs. runs ++ rest) (sym (same_Some _ _ same)))
-
-front_self : (a b : List Run) → Some a ≡ Some b → IsFront a b
-front_self a b same = ([], sym (same_Some _ _ same) ∙ sym (append-nil a))
-
-each_front : (logs : List (List Run)) (l : ℕ) (log more : List Run) → slice_get logs l ≡ Some log →
-    (n : ℕ) (front whole : List Run) → slice_get logs n ≡ Some front →
-    slice_get (slice_set logs l (log ++ more)) n ≡ Some whole → IsFront front whole
-each_front [] l log more at n front whole is_front is_whole = absurd cc
-each_front (first ∷ logs) zero log more at zero front whole is_front is_whole =
-    subst (λ runs. IsFront front runs) (same_Some _ _ is_whole)
-    (front_here front log more (sym is_front ∙ at))
-each_front (first ∷ logs) zero log more at (suc n) front whole is_front is_whole =
-    front_self front whole (sym is_front ∙ is_whole)
-each_front (first ∷ logs) (suc l) log more at zero front whole is_front is_whole =
-    front_self front whole (sym is_front ∙ is_whole)
-each_front (first ∷ logs) (suc l) log more at (suc n) front whole is_front is_whole =
-    each_front logs l log more at n front whole is_front is_whole
-
--- a log that goes on
-pub fronts_more : (logs : List (List Run)) (l : ℕ) (log more : List Run) →
-    slice_get logs l ≡ Some log → AreFronts logs (slice_set logs l (log ++ more))
-fronts_more logs l log more at = record {
-  count = sym (length-set logs l (log ++ more));
-  each = each_front logs l log more at;
-}
+use Rattle.batch_rt.specs.Stores.{Continues, sent_runs}
 
 module _ {C O R : Type 0} where
   length-sent : (logs : List (List Run)) (lanes : List (Lane C O R)) →
@@ -89,16 +43,6 @@ module _ {C O R : Type 0} where
   }
 
 module _ {C O R : Type 0} (m : Meaning C O R) where
-  pub continues_same : (store : Store C O R) → IsWholeStore store → Continues m store store
-  continues_same store whole = record {
-    state = refl;
-    sent = refl;
-    whole = whole;
-    objects = refl;
-    lanes = refl;
-    logs = fronts_same store.logs.items;
-  }
-
   pub continues_on : (a b c : Store C O R) → Continues m a b → Continues m b c → Continues m a c
   continues_on a b c first second = record {
     state = second.state ∙ first.state;

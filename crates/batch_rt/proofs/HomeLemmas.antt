@@ -2,12 +2,13 @@
 use Rattle.std.proofs.Common.{◌≡◌, ℕ, zero, suc, ◌<◌, Option, Some, None, List, [], ◌∷◌, ◌++◌, ◌⊎◌, inl, inr, ⊎_elim, map, length, refl, sym, ap, ◌∙◌, subst, get_or, append-nil, arith}
 use Rattle.std.specs.Prelude.{slice_get, slice_set}
 use Rattle.std.proofs.lemmas.List.{length-set, length-map, nil_from_length}
-use Rattle.std.proofs.lemmas.Option.{same_Some, some_pair_parts, slice_get_within, slice_get-get_or}
+use Rattle.std.proofs.lemmas.Option.{none-some, same_Some, some_pair_parts, slice_get_within, slice_get-get_or}
 use Rattle.std.proofs.lemmas.Bool.{cases_eq}
 use Rattle.ss_base.specs.declared.ids.ObjectId.{ObjectId}
 use Rattle.ss_base.specs.declared.ids.Run.{Run}
 use Rattle.class_laws.specs.Laws.{ReducibleLaws}
 use Rattle.execution_definitions.specs.Meanings.{Meaning}
+use Rattle.delegation.proofs.runs.FrontLemmas.{fronts_more}
 use Rattle.batch_rt.specs.declared.store.Store.{Store}
 use Rattle.batch_rt.specs.declared.object.Object.{Object}
 use Rattle.batch_rt.specs.declared.object.Object.TheVariants.{Here, Shared, Sent}
@@ -16,14 +17,9 @@ use Rattle.batch_rt.specs.Objects.{lane_and_place, brought}
 use Rattle.batch_rt.specs.Lanes.{load_from, load_of, after_entries, IsFit, IsIdle}
 use Rattle.batch_rt.specs.Stores.{sent_runs, total_after, with_part, IsWholeStore, ComesHome, value_in, value_after, numbers_in, lane_numbers, found_in, found_at, IsWhole}
 use Rattle.batch_rt.proofs.ListLemmas.{get-set, get-set_other, map_both}
-use Rattle.batch_rt.proofs.StoreLemmas.{each_set, sent_home}
+use Rattle.batch_rt.proofs.StoreLemmas.{numbers_of, each_set, sent_home, found_object}
 use Rattle.batch_rt.proofs.TotalLemmas.{total_home}
 use Rattle.batch_rt.proofs.IdleLemmas.{idle_part, idle_runs, idle_fit}
-use Rattle.batch_rt.proofs.ContinueLemmas.{fronts_more}
-
--- objects' numbers
-abbrev numbers_of : List ObjectId → List ℕ
-numbers_of numbers = map (λ number. number.0) numbers
 
 module _ {C : Type 0} where
   pub length-brought : (objects : List (Object C)) (numbers : List ObjectId) (values : List C) →
@@ -67,12 +63,6 @@ module _ {C : Type 0} where
       value_is (λ q at. let e = alone (suc q) at in omega (arith, e))
       (get-set_other objects number.0 i (Here first)
       (λ e. absurd (omega (arith, alone 0 (ap Some (sym e))))) ∙ here)
-
-nothing : {A : Type 0} {x : A} → None ≡ Some x → ⊥
-nothing is = absurd cc
-
-none_in : (p i : ℕ) → slice_get [] p ≡ Some i → ⊥
-none_in p i at = absurd cc
 
 -- a place may be in a lane or not
 in_lane : (l : ℕ) (found : Option (ℕ × ℕ)) →
@@ -131,21 +121,17 @@ module _ {C O R : Type 0} (objects : List (Object C)) (lanes : List (Lane C O R)
         let mapped = length-map old.numbers.items (λ number. number.0) in
         omega (arith, inside, count, mapped)
 
-    home_again : (i q : ℕ) (found : Option (Object C)) → slice_get objects i ≡ found →
-        found_in found ≡ Some (l, q) → found_at homed i ≡ None
-    home_again i q None at is = absurd cc
-    home_again i q (Some object) at is =
-        value_there i q object at is (within i q (ap found_in at ∙ is))
-
     pub came_back : (i q : ℕ) → found_at objects i ≡ Some (l, q) → found_at homed i ≡ None
-    came_back i q found = home_again i q (slice_get objects i) refl found
+    came_back i q found =
+        let object = found_object objects i (slice_get objects i) (l, q) refl found in
+        value_there i q object.0 object.1 object.2 (within i q found)
 
     -- an object that is in a lane afterwards was there before, and in another lane
     pub still_there : (i k p : ℕ) → found_at homed i ≡ Some (k, p) →
         (found_at objects i ≡ Some (k, p)) × (k ≡ l → ⊥)
     still_there i k p found =
         ⊎_elim
-        (λ inside. absurd (nothing (sym (came_back i inside.0 inside.1) ∙ found)))
+        (λ inside. absurd (none-some _ (sym (came_back i inside.0 inside.1) ∙ found)))
         (λ absent.
         let was : found_at objects i ≡ Some (k, p) = sym (ap found_in (stayed i absent)) ∙ found in
         (was, λ e. absent p (was ∙ ap (λ n. Some (n, p)) e)))
@@ -170,7 +156,7 @@ module _ {C O R : Type 0} (objects : List (Object C)) (lanes : List (Lane C O R)
           found_at homed i ≡ Some (k, p)
       only_else k p i at =
           ⊎_elim
-          (λ e. absurd (none_in p i (sym (ap (λ numbers. slice_get numbers p)
+          (λ e. absurd (none-some i (sym (ap (λ numbers. slice_get numbers p)
           (ap (λ n. lane_numbers (slice_set lanes l new) n) e ∙ numbers_now)) ∙ at)))
           (λ differs. elsewhere i k p (whole.only k p i
           (sym (ap (λ numbers. slice_get numbers p) (numbers_else k differs)) ∙ at)) differs)
@@ -202,7 +188,7 @@ module _ {C O R : Type 0} (m : Meaning C O R) (objects : List (Object C))
       object_now ≡ object
   stays_home i object object_now home at now =
       same_Some _ _ (sym now ∙ stayed objects lanes l old new whole here i
-      (λ q found. nothing (sym home ∙ (sym (ap found_in at) ∙ found))) ∙ at)
+      (λ q found. none-some _ (sym home ∙ (sym (ap found_in at) ∙ found))) ∙ at)
 
   sent_same_value : (i lane place : ℕ) (was : C) (object object_now : Object C) →
       lane_and_place object ≡ Some (lane, place) →
@@ -255,14 +241,11 @@ module _ {C O R : Type 0} (m : Meaning C O R) (objects : List (Object C))
 
   -- a lane that comes home leaves the store as it is
   module _ (laws : ReducibleLaws m.unit m.join) (total : R) (idle : IsIdle new) where
-    part_none : (load_of m new).part ≡ None
-    part_none = idle_part m new idle
-
     pub total_homed :
         total_after m (with_part m total old.part) lanes_now ≡ total_after m total lanes
     total_homed =
         sym (ap (λ load. total_after m (with_part m total load.part) lanes_now) load_done)
-        ∙ total_home m laws total lanes l old new here part_none
+        ∙ total_home m laws total lanes l old new here (idle_part m new idle)
 
     pub sent_homed : (logs : List (List Run)) (log : List Run) → slice_get logs l ≡ Some log →
         sent_runs (slice_set logs l (log ++ old.ran.items)) lanes_now ≡ sent_runs logs lanes

@@ -2,19 +2,13 @@
 use Rattle.std.proofs.Common.{◌≡◌, ℕ, zero, suc, ◌<◌, true, Option, Some, None, is_none, List, [], ◌∷◌, ◌++◌, map, length, refl, sym, ap, ◌∙◌, append-nil, arith}
 use Rattle.std.specs.Prelude.{slice_get}
 use Rattle.std.proofs.lemmas.List.{nil_from_length}
-use Rattle.std.proofs.lemmas.Option.{some_pair_parts}
+use Rattle.std.proofs.lemmas.Option.{none-some, some_pair_parts}
 use Rattle.ss_base.specs.declared.ids.Run.{Run}
 use Rattle.execution_definitions.specs.Meanings.{Meaning}
 use Rattle.batch_rt.specs.declared.object.Object.{Object}
 use Rattle.batch_rt.specs.declared.lane.Lane.{Lane}
 use Rattle.batch_rt.specs.Lanes.{load_of, load_from, after_entries, lane_runs, IsFit, IsIdle}
 use Rattle.batch_rt.specs.Stores.{sent_runs, with_part, total_after, numbers_in, lane_numbers, found_at, Each, IsWhole, IsIdleAt, NoneSent}
-
-none_there : {A : Type 0} (k : ℕ) (x : A) → slice_get [] k ≡ Some x → ⊥
-none_there k x at = absurd cc
-
-no_place : {A : Type 0} {x : A} → None ≡ Some x → ⊥
-no_place is = absurd cc
 
 none_from : {A : Type 0} (part : Option A) → is_none part ≡ true → part ≡ None
 none_from None is = refl
@@ -31,7 +25,7 @@ module _ {C O R : Type 0} where
   pub idle_fit : (lane : Lane C O R) → IsIdle lane → IsFit lane
   idle_fit lane idle = record {
     numbered = idle.values ∙ sym idle.numbers;
-    placed = λ k entry at. absurd (none_there k entry
+    placed = λ k entry at. absurd (none-some entry
         (ap (λ entries. slice_get entries k) (sym (nil_from_length lane.pending.items idle.pending))
         ∙ at));
   }
@@ -74,7 +68,7 @@ module _ {C O R : Type 0} where
       found_at objects n ≡ found → found_at objects n ≡ None
   not_found objects lanes n None whole idle is = is
   not_found objects lanes n (Some (l, p)) whole idle is =
-      absurd (none_there p n (ap (λ numbers. slice_get numbers p)
+      absurd (none-some n (ap (λ numbers. slice_get numbers p)
       (sym (idle_numbers lanes idle l)) ∙ whole.there n l p is))
 
   -- all objects are at home
@@ -86,7 +80,7 @@ module _ {C O R : Type 0} where
   pub idle_whole : (lanes : List (Lane C O R)) → Each IsIdle lanes → IsWhole {C = C} [] lanes
   idle_whole lanes idle = record {
     there = λ object lane place found. absurd cc;
-    only = λ lane place object is. absurd (none_there place object
+    only = λ lane place object is. absurd (none-some object
         (ap (λ numbers. slice_get numbers place) (sym (idle_numbers lanes idle lane)) ∙ is));
     fit = λ n lane at. idle_fit lane (idle n lane at);
   }
@@ -108,7 +102,7 @@ module _ {C O R : Type 0} (m : Meaning C O R) where
 -- a place in a lane is in one that there is
 pub lane_below : {C O R : Type 0} (lanes : List (Lane C O R)) (l p n : ℕ) →
     slice_get (lane_numbers lanes l) p ≡ Some n → l < length lanes
-lane_below [] l p n at = absurd (none_there p n at)
+lane_below [] l p n at = absurd (none-some n at)
 lane_below (lane ∷ lanes) zero p n at = omega arith
 lane_below (lane ∷ lanes) (suc l) p n at = let rest = lane_below lanes l p n at in omega (arith, rest)
 
@@ -120,7 +114,7 @@ home_from old new lanes l p n None whole idle none was is = is
 home_from old new lanes l p n (Some (k, q)) whole idle none was is =
     let before = none n k q is in
     let same = (some_pair_parts _ _ _ _ (sym before ∙ was)).0 in
-    absurd (none_there q n (ap (λ numbers. slice_get numbers q)
+    absurd (none-some n (ap (λ numbers. slice_get numbers q)
     (sym (ap (λ n. lane_numbers lanes n) same ∙ no_numbers (slice_get lanes l) idle))
     ∙ whole.there n k q is))
 
@@ -128,4 +122,4 @@ home_from old new lanes l p n (Some (k, q)) whole idle none was is =
 pub still_home : {C : Type 0} (old new : List (Object C)) (n : ℕ) (found : Option (ℕ × ℕ)) →
     NoneSent old new → found_at old n ≡ None → found_at new n ≡ found → found_at new n ≡ None
 still_home old new n None none was is = is
-still_home old new n (Some (l, p)) none was is = absurd (no_place (sym was ∙ none n l p is))
+still_home old new n (Some (l, p)) none was is = absurd (none-some _ (sym was ∙ none n l p is))

@@ -1,7 +1,8 @@
 -- One element of a list is changed.
-use Rattle.std.proofs.Common.{◌≡◌, ◌⊎◌, inl, inr, ⊎_elim, ℕ, zero, suc, Some, List, [], ◌∷◌, ◌++◌, map, length, refl, sym, ap, arith}
+use Rattle.std.proofs.Common.{◌≡◌, ◌⊎◌, inl, inr, ⊎_elim, ℕ, zero, suc, Some, List, [], ◌∷◌, ◌++◌, map, length, refl, sym, ap, ◌∙◌, arith}
 use Rattle.std.specs.Prelude.{slice_get, slice_set}
-use Rattle.std.proofs.lemmas.Option.{same_Some}
+use Rattle.std.proofs.lemmas.List.{set-get_or}
+use Rattle.std.proofs.lemmas.Option.{same_Some, get_or_from_slice_get}
 
 module _ {A : Type 0} where
   pub get-set : (xs : List A) (i : ℕ) (x y : A) → slice_get xs i ≡ Some x →
@@ -21,19 +22,8 @@ module _ {A : Type 0} where
 
   pub set_same : (xs : List A) (i : ℕ) (x : A) → slice_get xs i ≡ Some x →
       slice_set xs i x ≡ xs
-  set_same [] i x here = refl
-  set_same (first ∷ xs) zero x here = ap (λ y. y ∷ xs) (sym (same_Some _ _ here))
-  set_same (first ∷ xs) (suc i) x here = ap (λ rest. first ∷ rest) (set_same xs i x here)
-
-  pub get-push_front : (xs : List A) (y : A) (i : ℕ) (x : A) → slice_get xs i ≡ Some x →
-      slice_get (xs ++ y ∷ []) i ≡ Some x
-  get-push_front [] y i x here = absurd cc
-  get-push_front (first ∷ xs) y zero x here = here
-  get-push_front (first ∷ xs) y (suc i) x here = get-push_front xs y i x here
-
-  pub get-push_last : (xs : List A) (y : A) → slice_get (xs ++ y ∷ []) (length xs) ≡ Some y
-  get-push_last [] y = refl
-  get-push_last (first ∷ xs) y = get-push_last xs y
+  set_same xs i x here =
+      ap (slice_set xs i) (sym (get_or_from_slice_get xs i x x here)) ∙ set-get_or xs i x
 
 module _ {A B : Type 0} (f g : A → B) where
   pub map_same : (xs : List A) → ((n : ℕ) (x : A) → slice_get xs n ≡ Some x → g x ≡ f x) →

@@ -5,12 +5,14 @@ use Rattle.std.specs.Option.{option_map}
 use Rattle.std.specs.Arc.{arc_value}
 use Rattle.std.proofs.lemmas.List.{length-map, map_push, length_push, get_or_append_left, get_or-set_other}
 use Rattle.std.proofs.lemmas.List.Sums.{fold_push}
-use Rattle.std.proofs.lemmas.Option.{same_Some, some_pair_parts, slice_get_within, slice_get-get_or, slice_get-map, get_or_from_slice_get}
+use Rattle.std.proofs.lemmas.Option.{none-some, same_Some, some_pair_parts, slice_get_within, slice_get-get_or, slice_get-map, get_or_from_slice_get}
 use Rattle.std.proofs.lemmas.Bool.{cases_eq}
 use Rattle.ss_base.specs.declared.ids.ObjectId.{ObjectId}
 use Rattle.class_laws.specs.Laws.{ReducibleLaws}
 use Rattle.execution_definitions.specs.Meanings.{Meaning}
-use Rattle.execution_definitions.specs.Sequential.{State, operated, operated_on}
+use Rattle.execution_definitions.specs.Sequential.{operated, operated_on}
+use Rattle.execution_definitions.proofs.lists.ListLemmas.{slice_get-front, slice_get-append_seam}
+use Rattle.delegation.specs.PlainParts.{state_of}
 use Rattle.batch_rt.specs.declared.object.Object.{Object}
 use Rattle.batch_rt.specs.declared.object.Object.TheVariants.{Here, Shared, Sent}
 use Rattle.batch_rt.specs.declared.lane.Lane.{Lane}
@@ -18,21 +20,10 @@ use Rattle.batch_rt.specs.declared.lane.Entry.{Entry}
 use Rattle.batch_rt.specs.Objects.{lane_and_place, value_at_home}
 use Rattle.batch_rt.specs.Lanes.{load_from, load_of, lane_runs, after_entry, after_entries, run_on, stepped, IsFit}
 use Rattle.batch_rt.specs.Stores.{value_in, value_after, total_after, state_from, numbers_in, lane_numbers, found_in, found_at, IsWhole}
-use Rattle.batch_rt.proofs.ListLemmas.{get-set, get-set_other, set_same, get-push_front, get-push_last, push_cases, map_one}
+use Rattle.batch_rt.proofs.ListLemmas.{get-set, get-set_other, set_same, push_cases, map_one}
 use Rattle.batch_rt.proofs.LaneLemmas.{length-after, pushed, after_entries-pushed}
-use Rattle.batch_rt.proofs.StoreLemmas.{each_set, value_home, value_here, values_set, whole_lane}
+use Rattle.batch_rt.proofs.StoreLemmas.{numbers_of, each_set, value_home, value_here, values_set, whole_lane}
 use Rattle.batch_rt.proofs.TotalLemmas.{total_more, total_put}
-
--- objects' numbers
-abbrev numbers_of : List ObjectId → List ℕ
-numbers_of numbers = map (λ number. number.0) numbers
-
-nothing : {A : Type 0} {x : A} → None ≡ Some x → ⊥
-nothing is = absurd cc
-
--- values with a total
-abbrev state_with : {C R : Type 0} → List C → R → State C R
-state_with values total = record { values = values; total = total }
 
 module _ {C O R : Type 0} (m : Meaning C O R) where
   -- the value of an object that is in a lane
@@ -58,6 +49,9 @@ module _ {C O R : Type 0} (m : Meaning C O R) where
   module _ (objects : List (Object C)) (lanes : List (Lane C O R)) (l : ℕ)
       (old new : Lane C O R) (whole : IsWhole objects lanes) (here : slice_get lanes l ≡ Some old)
     where
+      fit_old : IsFit old
+      fit_old = whole.fit l old here
+
       -- the values of a lane that are read elsewhere stay
       abbrev KeepsOthers : ℕ → Type 0
       KeepsOthers o = (p n : ℕ) (none : C) → (n ≡ o → ⊥) →
@@ -85,13 +79,12 @@ module _ {C O R : Type 0} (m : Meaning C O R) where
           (λ apart. ap (λ found. value_in m found p was.value) (get-set_other lanes l k new apart))
           (cases_eq k l)
 
-      placed_below : IsFit old → (p n : ℕ) →
-          slice_get (numbers_of old.numbers.items) p ≡ Some n →
+      placed_below : (p n : ℕ) → slice_get (numbers_of old.numbers.items) p ≡ Some n →
           p < length (load_of m old).values
-      placed_below fit p n at =
+      placed_below p n at =
           let inside = slice_get_within (numbers_of old.numbers.items) p n at in
           let mapped = length-map old.numbers.items (λ number. number.0) in
-          let count = length-load old fit in
+          let count = length-load old fit_old in
           omega (arith, inside, mapped, count)
 
       -- an object at home goes to the lane
@@ -102,10 +95,7 @@ module _ {C O R : Type 0} (m : Meaning C O R) where
           (numbers : new.numbers.items ≡ old.numbers.items ++ o ∷ [])
           (values : new.values.items ≡ old.values.items ++ value ∷ [])
           (pending : new.pending.items ≡ old.pending.items) (part : new.part ≡ old.part) where
-        fit_old : IsFit old
-        fit_old = whole.fit l old here
-
-        pub load_pushed : load_of m new ≡ pushed m (load_of m old) value
+        load_pushed : load_of m new ≡ pushed m (load_of m old) value
         load_pushed =
             ap (λ entries. after_entries m (load_from new.values.items new.part) entries) pending
             ∙ ap (λ items. after_entries m (load_from items new.part) old.pending.items) values
@@ -118,16 +108,16 @@ module _ {C O R : Type 0} (m : Meaning C O R) where
         keeps_sent p n none differs placed =
             ap (λ load. get_or load.values p none) load_pushed
             ∙ get_or_append_left (load_of m old).values (value ∷ []) none p
-            (placed_below fit_old p n placed)
+            (placed_below p n placed)
 
         last_value : slice_get (load_of m new).values place ≡ Some value
         last_value =
             ap (λ load. slice_get load.values place) load_pushed
             ∙ ap (λ n. slice_get ((load_of m old).values ++ value ∷ []) n)
             (place_is ∙ fit_old.numbered ∙ sym (length-load old fit_old))
-            ∙ get-push_last (load_of m old).values value
+            ∙ slice_get-append_seam (load_of m old).values value []
 
-        pub values_sent : map (value_after m (slice_set lanes l new)) (slice_set objects o.0 sent)
+        values_sent : map (value_after m (slice_set lanes l new)) (slice_set objects o.0 sent)
             ≡ map (value_after m lanes) objects
         values_sent =
             map_one (value_after m lanes) (value_after m (slice_set lanes l new)) objects o.0 sent
@@ -161,11 +151,13 @@ module _ {C O R : Type 0} (m : Meaning C O R) where
         there_old n k p is =
             ⊎_elim
             (λ e.
+            let was : slice_get (numbers_of old.numbers.items) p ≡ Some n =
+            sym (ap (λ numbers. slice_get numbers p)
+            (ap (λ n. lane_numbers lanes n) e ∙ ap numbers_in here)) ∙ whole.there n k p is in
             ap (λ n. slice_get (lane_numbers (slice_set lanes l new) n) p) e
             ∙ ap (λ numbers. slice_get numbers p) numbers_at
-            ∙ get-push_front (numbers_of old.numbers.items) o.0 p n
-            (sym (ap (λ numbers. slice_get numbers p)
-            (ap (λ n. lane_numbers lanes n) e ∙ ap numbers_in here)) ∙ whole.there n k p is))
+            ∙ slice_get-front (numbers_of old.numbers.items) (o.0 ∷ []) p
+            (slice_get_within (numbers_of old.numbers.items) p n was) ∙ was)
             (λ apart. ap (λ numbers. slice_get numbers p)
             (ap numbers_in (get-set_other lanes l k new apart)) ∙ whole.there n k p is)
             (cases_eq k l)
@@ -181,7 +173,7 @@ module _ {C O R : Type 0} (m : Meaning C O R) where
             ∙ ap (λ numbers. slice_get numbers p) numbers_at
             ∙ ap (λ n. slice_get (numbers_of old.numbers.items ++ o.0 ∷ []) n)
             (sym same.1 ∙ place_at)
-            ∙ get-push_last (numbers_of old.numbers.items) o.0 ∙ ap Some (sym e))
+            ∙ slice_get-append_seam (numbers_of old.numbers.items) o.0 [] ∙ ap Some (sym e))
             (λ differs. there_old n k p (sym (found_other n differs) ∙ is))
             (cases_eq n o.0)
 
@@ -189,7 +181,7 @@ module _ {C O R : Type 0} (m : Meaning C O R) where
             found_at (slice_set objects o.0 sent) n ≡ Some (k, p)
         only_old k p n is =
             let was = whole.only k p n is in
-            found_other n (λ e. nothing (sym (ap found_in at ∙ found)
+            found_other n (λ e. none-some _ (sym (ap found_in at ∙ found)
             ∙ (sym (ap (λ n. found_at objects n) e) ∙ was)))
             ∙ was
 
@@ -225,12 +217,18 @@ module _ {C O R : Type 0} (m : Meaning C O R) where
               omega (arith, below, count);
         }
 
-        pub whole_sent : IsWhole (slice_set objects o.0 sent) (slice_set lanes l new)
+        whole_sent : IsWhole (slice_set objects o.0 sent) (slice_set lanes l new)
         whole_sent = record {
           there = there_now;
           only = only_now;
           fit = each_set IsFit lanes l new whole.fit fit_sent;
         }
+
+        pub sends : (map (value_after m (slice_set lanes l new)) (slice_set objects o.0 sent)
+            ≡ map (value_after m lanes) objects)
+            × ((load_of m new).part ≡ (load_of m old).part)
+            × IsWhole (slice_set objects o.0 sent) (slice_set lanes l new)
+        sends = (values_sent, ap (λ load. load.part) load_pushed, whole_sent)
 
       -- an operation goes to the end of the lane's list
       module _ (o : ℕ) (object : Object C) (entry : Entry C O R)
@@ -240,9 +238,6 @@ module _ {C O R : Type 0} (m : Meaning C O R) where
           (values : new.values.items ≡ old.values.items)
           (pending : new.pending.items ≡ old.pending.items ++ entry ∷ [])
           (part : new.part ≡ old.part) (ran : new.ran.items ≡ old.ran.items) where
-        fit_before : IsFit old
-        fit_before = whole.fit l old here
-
         load_put : load_of m new ≡ after_entry m (load_of m old) entry
         load_put =
             ap (λ entries. after_entries m (load_from new.values.items new.part) entries) pending
@@ -261,7 +256,7 @@ module _ {C O R : Type 0} (m : Meaning C O R) where
             ≡ Some (value_after m lanes object)
         value_now =
             let some = slice_get-get_or (load_of m old).values entry.place (value_after m lanes object)
-            (placed_below fit_before entry.place o number_here) in
+            (placed_below entry.place o number_here) in
             some ∙ ap Some (sym (value_sent lanes object l entry.place old _ goes here some))
 
         abbrev step_now : C × R
@@ -305,14 +300,14 @@ module _ {C O R : Type 0} (m : Meaning C O R) where
 
         fit_put : IsFit new
         fit_put = record {
-          numbered = ap length values ∙ fit_before.numbered ∙ sym (ap length numbers);
+          numbered = ap length values ∙ fit_old.numbered ∙ sym (ap length numbers);
           placed = λ k other is. subst (λ items. other.place < length items) (sym values)
               (⊎_elim
-              (λ inside. fit_before.placed k other inside)
+              (λ inside. fit_old.placed k other inside)
               (λ last. subst (λ e. e.place < length old.values.items) (sym last.1)
-              (let below = placed_below fit_before entry.place o number_here in
-              let count = length-load old fit_before in
-              let numbered = fit_before.numbered in omega (arith, below, count, numbered)))
+              (let below = placed_below entry.place o number_here in
+              let count = length-load old fit_old in
+              let numbered = fit_old.numbered in omega (arith, below, count, numbered)))
               (push_cases old.pending.items entry k other
               (ap (λ entries. slice_get entries k) (sym pending) ∙ is)));
         }
@@ -323,8 +318,8 @@ module _ {C O R : Type 0} (m : Meaning C O R) where
             ≡ operated m (state_from m objects total lanes) o entry.op
             (option_map arc_value entry.reading)
         state_put total laws =
-            ap (λ values. state_with values (total_after m total (slice_set lanes l new))) values_put
-            ∙ ap (λ sum. state_with (slice_set (map (value_after m lanes) objects) o step_now.0) sum)
+            ap (λ values. state_of values (total_after m total (slice_set lanes l new))) values_put
+            ∙ ap (λ sum. state_of (slice_set (map (value_after m lanes) objects) o step_now.0) sum)
             (total_put m laws total step_now.1 lanes l old new here (ap (λ load. load.part) load_stepped))
             ∙ sym (ap (λ found. operated_on m (state_from m objects total lanes) o entry.op
             (option_map arc_value entry.reading) found) (value_here m objects lanes o object at))
@@ -341,11 +336,11 @@ module _ {C O R : Type 0} (m : Meaning C O R) where
       state_from m (slice_set objects o (Here after)) sum lanes
       ≡ operated m (state_from m objects total lanes) o op None
   state_operated objects lanes o object op value after total sum laws at home after_is sum_is =
-      ap (λ values. state_with values (total_after m sum lanes))
+      ap (λ values. state_of values (total_after m sum lanes))
       (values_set m objects lanes o (Here after) (m.step value op None).0 (ap Some after_is))
-      ∙ ap (λ sum. state_with (slice_set (map (value_after m lanes) objects) o (m.step value op None).0)
+      ∙ ap (λ sum. state_of (slice_set (map (value_after m lanes) objects) o (m.step value op None).0)
       (total_after m sum lanes)) sum_is
-      ∙ ap (λ sum. state_with (slice_set (map (value_after m lanes) objects) o (m.step value op None).0)
+      ∙ ap (λ sum. state_of (slice_set (map (value_after m lanes) objects) o (m.step value op None).0)
       sum) (total_more m laws total (m.step value op None).1 lanes)
       ∙ sym (ap (λ found. operated_on m (state_from m objects total lanes) o op None found)
       (value_here m objects lanes o object at

@@ -2,12 +2,11 @@
 use Rattle.std.proofs.Common.{◌≡◌, ℕ, zero, suc, Some, Bool, true, false, ◌&&◌, List, [], ◌∷◌, map, length, refl, sym, ap, ◌∙◌, subst, get_or, arith}
 use Rattle.std.specs.Prelude.{slice_get, slice_set, not}
 use Rattle.std.specs.List.{list_all}
-use Rattle.std.proofs.lemmas.Option.{same_Some}
+use Rattle.std.proofs.lemmas.Option.{none-some, same_Some}
 use Rattle.ss_base.specs.declared.ids.Run.{Run}
 use Rattle.execution_definitions.specs.Meanings.{Meaning}
 use Rattle.jobs.specs.Jobs.{EachGives}
 use Rattle.batch_rt.specs.declared.lane.Lane.{Lane}
-use Rattle.batch_rt.specs.declared.lane.Entry.{Entry}
 use Rattle.batch_rt.specs.declared.object.Object.{Object}
 use Rattle.batch_rt.specs.declared.object.Object.TheVariants.{Here, Shared, Sent}
 use Rattle.batch_rt.specs.Lanes.{load_of, lane_runs, IsFit, HasWorked, Works}
@@ -43,23 +42,17 @@ module _ {C O R : Type 0} (m : Meaning C O R) where
   all_same_self (lane ∷ lanes) fit =
       (same_self lane (fit 0 lane refl), all_same_self lanes (λ n lane at. fit (suc n) lane at))
 
-  none_there : (k : ℕ) (entry : Entry C O R) → slice_get [] k ≡ Some entry → ⊥
-  none_there k entry at = absurd cc
-
   -- a lane that ran
-  fit_run : (old new : Lane C O R) → IsFit old → HasWorked m old new → IsFit new
-  fit_run old new fit run = record {
-    numbered = run.count ∙ fit.numbered ∙ sym (ap length run.numbers);
-    placed = λ k entry at.
-        absurd (none_there k entry (subst (λ entries. slice_get entries k ≡ Some entry) run.done at));
-  }
-
   pub same_run : (old new : Lane C O R) → IsFit old → HasWorked m old new → IsSame old new
   same_run old new fit run = record {
     load = run.load;
     runs = run.runs;
     numbers = run.numbers;
-    fit = fit_run old new fit run;
+    fit = record {
+      numbered = run.count ∙ fit.numbered ∙ sym (ap length run.numbers);
+      placed = λ k entry at.
+          absurd (none-some entry (subst (λ entries. slice_get entries k ≡ Some entry) run.done at));
+    };
   }
 
   pub all_same_set : (lanes : List (Lane C O R)) (l : ℕ) (old new : Lane C O R) →
@@ -148,13 +141,6 @@ module _ {C O R : Type 0} (m : Meaning C O R) where
   same_value_after lanes news same (Sent lane place was) =
       same_value lanes news same lane place was.value
 
-  pub same_values : (objects : List (Object C)) (lanes news : List (Lane C O R)) →
-      AreSame lanes news →
-      map (value_after m news) objects ≡ map (value_after m lanes) objects
-  same_values objects lanes news same =
-      map_same (value_after m lanes) (value_after m news) objects
-      (λ n object at. same_value_after lanes news same object)
-
   same_numbers : (lanes news : List (Lane C O R)) → AreSame lanes news → (n : ℕ) →
       lane_numbers news n ≡ lane_numbers lanes n
   same_numbers [] [] same n = refl
@@ -182,7 +168,11 @@ module _ {C O R : Type 0} (m : Meaning C O R) where
   pub same_state : (objects : List (Object C)) (total : R) (lanes news : List (Lane C O R)) →
       AreSame lanes news → state_from m objects total news ≡ state_from m objects total lanes
   same_state objects total lanes news same =
-      rw (same_values objects lanes news same, same_total total lanes news same) refl
+      rw (
+        map_same (value_after m lanes) (value_after m news) objects
+            (λ n object at. same_value_after lanes news same object),
+        same_total total lanes news same,
+      ) refl
 
   pub whole_each : (lanes : List (Lane C O R)) →
       list_all (λ lane. not lane.is_broken) lanes ≡ true →

@@ -5,6 +5,7 @@ use Rattle.std.specs.Option.{option_map}
 use Rattle.std.proofs.lemmas.List.{map-set}
 use Rattle.std.proofs.lemmas.Option.{same_Some, slice_get-map}
 use Rattle.std.proofs.lemmas.Bool.{cases_eq}
+use Rattle.ss_base.specs.declared.ids.ObjectId.{ObjectId}
 use Rattle.ss_base.specs.declared.ids.Run.{Run}
 use Rattle.execution_definitions.specs.Meanings.{Meaning}
 use Rattle.delegation.specs.Answers.{with_run}
@@ -15,6 +16,10 @@ use Rattle.batch_rt.specs.Objects.{lane_and_place, value_at_home}
 use Rattle.batch_rt.specs.Lanes.{lane_runs, IsFit}
 use Rattle.batch_rt.specs.Stores.{sent_runs, value_after, lane_numbers, found_in, found_at, Each, IsWhole}
 use Rattle.batch_rt.proofs.ListLemmas.{get-set, get-set_other, set_same}
+
+-- objects' numbers
+abbrev pub numbers_of : List ObjectId → List ℕ
+numbers_of numbers = map (λ number. number.0) numbers
 
 module _ {C : Type 0} where
   pub found_set : (objects : List (Object C)) (o : ℕ) (old new : Object C) →

@@ -1,7 +1,8 @@
 -- Lists of runs that are the front of others.
-use Rattle.std.proofs.Common.{◌≡◌, ℕ, zero, suc, Bool, Some, List, [], ◌∷◌, ◌++◌, length, refl, sym, ap, ◌∙◌, append-nil, arith}
-use Rattle.std.specs.Prelude.{slice_get}
-use Rattle.std.proofs.lemmas.Option.{same_Some}
+use Rattle.std.proofs.Common.{◌≡◌, ℕ, zero, suc, Bool, Some, List, [], ◌∷◌, ◌++◌, length, refl, sym, ap, ◌∙◌, subst, append-nil, append_assoc, arith}
+use Rattle.std.specs.Prelude.{slice_get, slice_set}
+use Rattle.std.proofs.lemmas.List.{length-set}
+use Rattle.std.proofs.lemmas.Option.{same_Some, slice_get_within, slice_get-get_or}
 use Rattle.ss_base.specs.declared.ids.Run.{Run}
 use Rattle.delegation.specs.Runtimes.{IsFront, AreFronts, HasDone}
 use Rattle.delegation.specs.Answers.{with_run}
@@ -51,4 +52,47 @@ pub fronts-with_run : (lane : ℕ) (run : Run) (lists : List (List Run)) →
 fronts-with_run lane run lists = record {
   count = sym (length-with_run lane run lists);
   each = front-with_run lane run lists;
+}
+
+-- the front of a front
+front_trans : (a b c : List Run) → IsFront a b → IsFront b c → IsFront a c
+front_trans a b c first second = (
+  first.0 ++ second.0,
+  second.1 ∙ ap (λ runs. runs ++ second.0) first.1 ∙ append_assoc a first.0 second.0,
+)
+
+pub fronts_trans : (a b c : List (List Run)) → AreFronts a b → AreFronts b c → AreFronts a c
+fronts_trans a b c first second = record {
+  count = first.count ∙ second.count;
+  each = λ lane front whole is_front is_whole.
+      let below = slice_get_within a lane front is_front in
+      let count = first.count in
+      let middle = slice_get-get_or b lane front (omega (arith, below, count)) in
+      front_trans front _ whole (first.each lane front _ is_front middle)
+      (second.each lane _ whole middle is_whole);
+}
+
+pub front_here : (a b rest : List Run) → Some a ≡ Some b → IsFront a (b ++ rest)
+front_here a b rest same = (rest, ap (λ runs. runs ++ rest) (sym (same_Some _ _ same)))
+
+each_front : (logs : List (List Run)) (l : ℕ) (log more : List Run) → slice_get logs l ≡ Some log →
+    (n : ℕ) (front whole : List Run) → slice_get logs n ≡ Some front →
+    slice_get (slice_set logs l (log ++ more)) n ≡ Some whole → IsFront front whole
+each_front [] l log more at n front whole is_front is_whole = absurd cc
+each_front (first ∷ logs) zero log more at zero front whole is_front is_whole =
+    subst (λ runs. IsFront front runs) (same_Some _ _ is_whole)
+    (front_here front log more (sym is_front ∙ at))
+each_front (first ∷ logs) zero log more at (suc n) front whole is_front is_whole =
+    front_same front whole (sym is_front ∙ is_whole)
+each_front (first ∷ logs) (suc l) log more at zero front whole is_front is_whole =
+    front_same front whole (sym is_front ∙ is_whole)
+each_front (first ∷ logs) (suc l) log more at (suc n) front whole is_front is_whole =
+    each_front logs l log more at n front whole is_front is_whole
+
+-- a log that goes on
+pub fronts_more : (logs : List (List Run)) (l : ℕ) (log more : List Run) →
+    slice_get logs l ≡ Some log → AreFronts logs (slice_set logs l (log ++ more))
+fronts_more logs l log more at = record {
+  count = sym (length-set logs l (log ++ more));
+  each = each_front logs l log more at;
 }

@@ -1,5 +1,5 @@
 -- What is sent to the lanes, one call more at a time.
-use Rattle.std.proofs.Common.{◌≡◌, ℕ, zero, suc, ◌+◌, ◌<◌, ◌==◌, Option, Some, None, List, [], ◌∷◌, ◌++◌, map, sym, ap, ◌∙◌, subst, arith, append-nil, mod-lt, zero-lt-suc}
+use Rattle.std.proofs.Common.{◌≡◌, ℕ, zero, suc, ◌+◌, ◌<◌, ◌≤◌, ◌==◌, Option, Some, None, List, [], ◌∷◌, ◌++◌, map, replicate, refl, sym, ap, ◌∙◌, subst, arith, append-nil, mod-lt, zero-lt-suc}
 use Rattle.std.specs.Prelude.{if◌then◌else◌, filter, option_to_list}
 use Rattle.std.specs.List.{range_with_len}
 use Rattle.std.proofs.lemmas.Grind.{common_steps}
@@ -71,3 +71,18 @@ pub sent_to_lanes-push : (calls : List Shape) (n : ℕ) (call : Shape) →
 sent_to_lanes-push calls n call =
     sent_with-range (sent calls n) n (run_of calls call)
     ∙ sym (map_range-pointwise _ _ 0 (lane_count n) (λ lane above. sent-push calls n lane call))
+
+-- where there are delegates, it is one of theirs
+pub lane_within : (set n : ℕ) → 1 ≤ n → lane_of_set set n < n
+lane_within set zero some = absurd (omega arith)
+lane_within set (suc n) some = lane_of_set-below set (suc n)
+
+-- nothing was sent before the first call
+none_sent : (n start count : ℕ) →
+    map (sent [] n) (range_with_len start count) ≡ replicate count []
+none_sent n start zero = refl
+none_sent n start (suc count) = ap (λ rest. [] ∷ rest) (none_sent n (start + 1) count)
+
+pub none_sent_to_lanes : (n : ℕ) → 1 ≤ n → replicate n [] ≡ sent_to_lanes [] n
+none_sent_to_lanes zero some = absurd (omega arith)
+none_sent_to_lanes (suc n) some = sym (none_sent (suc n) 0 (suc n))

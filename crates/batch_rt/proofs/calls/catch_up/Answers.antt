@@ -1,20 +1,19 @@
 use Rattle.std.proofs.Common.{◌≡◌, sym, ◌∙◌, subst}
 use Rattle.std.specs.Prelude.{slice_get}
+use Rattle.delegation.proofs.runs.SentLemmas.{lane_within}
 use Rattle.delegation.proofs.plains.OperationLemmas.{on_ok}
 use Rattle.batch_rt.specs.Stores.{store_sent}
 use Rattle.batch_rt.proofs.IdleLemmas.{idle_caught_up}
-use Rattle.batch_rt.proofs.CallLemmas.{lane_within}
 use Rattle.batch_rt.proofs.calls.catch_up.Goals as goal
 
-pub bring_home-requires-clause-known : goal.bring_home-requires-clause-known
-bring_home-requires-clause-known g c =
-    rw (c.from.ensures, c.lane_of.ensures, c.requires.lanes)
-    (lane_within c.in-Some.set.0 c.args.delegates c.requires.some)
-
-pub bring_home-requires-clause-logged : goal.bring_home-requires-clause-logged
-bring_home-requires-clause-logged g c =
-    rw (c.from.ensures, c.lane_of.ensures, c.requires.logs)
-    (lane_within c.in-Some.set.0 c.args.delegates c.requires.some)
+pub bring_home-requires : goal.bring_home-requires
+bring_home-requires g c =
+    let below = lane_within c.in-Some.set.0 c.args.delegates c.requires.some in
+    record {
+      whole = c.requires.whole;
+      known = rw (c.from.ensures, c.lane_of.ensures, c.requires.lanes) below;
+      logged = rw (c.from.ensures, c.lane_of.ensures, c.requires.logs) below;
+    }
 
 pub returns-in-Some-clause-caught_up : goal.returns-in-Some-clause-caught_up
 returns-in-Some-clause-caught_up g c =

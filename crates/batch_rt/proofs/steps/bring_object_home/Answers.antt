@@ -5,17 +5,8 @@ use Rattle.batch_rt.proofs.IdleLemmas.{lane_below, home_from}
 use Rattle.batch_rt.proofs.CallLemmas.{on_ok3}
 use Rattle.batch_rt.proofs.steps.bring_object_home.Goals as goal
 
-pub bring_home-requires-clause-known : goal.bring_home-requires-clause-known
-bring_home-requires-clause-known g c =
-    let store = c.args.store.now in
-    let at = slice_get_read store.objects.items (length store.objects.items) c.args.o.0
-    c.index.result.now refl c.requires.known c.index.ensures in
-    lane_below store.lanes.items c.in-Some.lane c.in-Some.field-0-1 c.args.o.0
-    (c.requires.whole.there c.args.o.0 c.in-Some.lane c.in-Some.field-0-1
-    (ap found_in at ∙ sym c.whereabouts.ensures ∙ c.in-Some.is))
-
-pub bring_home-requires-clause-logged : goal.bring_home-requires-clause-logged
-bring_home-requires-clause-logged g c =
+pub bring_home-requires : goal.bring_home-requires
+bring_home-requires g c =
     let store = c.args.store.now in
     let at = slice_get_read store.objects.items (length store.objects.items) c.args.o.0
     c.index.result.now refl c.requires.known c.index.ensures in
@@ -23,7 +14,7 @@ bring_home-requires-clause-logged g c =
     (c.requires.whole.there c.args.o.0 c.in-Some.lane c.in-Some.field-0-1
     (ap found_in at ∙ sym c.whereabouts.ensures ∙ c.in-Some.is)) in
     let logged = c.requires.logged in
-    omega (arith, below, logged)
+    record { whole = c.requires.whole; known = below; logged = omega (arith, below, logged) }
 
 pub returns-in-None-clause-home : goal.returns-in-None-clause-home
 returns-in-None-clause-home g c =

@@ -1,5 +1,5 @@
 use Rattle.std.proofs.lemmas.Result.{on_ok_weaker}
-use Rattle.batch_rt.proofs.ContinueLemmas.{fronts_trans}
+use Rattle.delegation.proofs.runs.FrontLemmas.{fronts_trans}
 use Rattle.batch_rt.proofs.steps.send.Goals as goal
 
 pub returns-clause-logs : goal.returns-clause-logs

@@ -6,7 +6,7 @@ use Rattle.batch_rt.specs.Stores.{found_in}
 use Rattle.batch_rt.proofs.ListLemmas.{get-set}
 use Rattle.batch_rt.proofs.StoreLemmas.{sent_same}
 use Rattle.batch_rt.proofs.TotalLemmas.{total_same}
-use Rattle.batch_rt.proofs.MoveLemmas.{values_sent, load_pushed, whole_sent}
+use Rattle.batch_rt.proofs.MoveLemmas.{sends}
 use Rattle.batch_rt.proofs.steps.send_to.Goals as goal
 
 pub returns-clause-continues : goal.returns-clause-continues
@@ -29,22 +29,17 @@ returns-clause-continues g c =
     let taken = c.in_ok-take_in.ensures in
     let sent = c.send_object.new.object in
     let value = c.in_ok-value.value in
+    let moved = sends m objects lanes c.args.lane old new c.requires.whole here c.args.o object sent
+    value c.len-place.result at c.in_ok-value.ensures.value home c.in_ok-value.ensures.sent place_is
+    taken.numbers taken.values taken.pending taken.part in
     record {
       state = rw (
-        values_sent m objects lanes c.args.lane old new c.requires.whole here c.args.o object sent
-            value c.len-place.result at c.in_ok-value.ensures.value home c.in_ok-value.ensures.sent
-            place_is taken.numbers taken.values taken.pending taken.part,
-        total_same m c.args.store.now.total lanes c.args.lane old new here
-            (ap (λ load. load.part) (load_pushed m objects lanes c.args.lane old new
-            c.requires.whole here c.args.o object sent value c.len-place.result at
-            c.in_ok-value.ensures.value home c.in_ok-value.ensures.sent place_is taken.numbers
-            taken.values taken.pending taken.part)),
+        moved.0,
+        total_same m c.args.store.now.total lanes c.args.lane old new here moved.1,
       ) refl;
       sent = sent_same c.args.store.now.logs.items lanes c.args.lane old new here
           (rw (taken.ran, taken.pending) refl);
-      whole = whole_sent m objects lanes c.args.lane old new c.requires.whole here c.args.o object
-          sent value c.len-place.result at c.in_ok-value.ensures.value home
-          c.in_ok-value.ensures.sent place_is taken.numbers taken.values taken.pending taken.part;
+      whole = moved.2;
       objects = length-set objects c.args.o.0 sent;
       lanes = length-set lanes c.args.lane new;
       logs = fronts_same c.args.store.now.logs.items;

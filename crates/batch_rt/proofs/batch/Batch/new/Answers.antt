@@ -1,7 +1,8 @@
 use Rattle.std.proofs.Common.{refl, sym, ap, ◌∙◌, length, []}
 use Rattle.std.proofs.lemmas.List.{length-replicate}
+use Rattle.delegation.proofs.runs.SentLemmas.{none_sent_to_lanes}
 use Rattle.batch_rt.proofs.IdleLemmas.{idle_whole}
-use Rattle.batch_rt.proofs.CallLemmas.{none_sent_to_lanes, store_done}
+use Rattle.batch_rt.proofs.CallLemmas.{store_done}
 use Rattle.batch_rt.proofs.batch.Batch.new.Goals as goal
 
 pub invariant_of-result : goal.invariant_of-result

@@ -2,7 +2,8 @@ use Rattle.std.proofs.Common.{refl, sym, ap, ◌∙◌, Some, None, subst, lengt
 use Rattle.execution_definitions.specs.Sequential.{operated}
 use Rattle.delegation.proofs.plains.PlainLemmas.{length-noted}
 use Rattle.batch_rt.specs.Lanes.{IsIdle}
-use Rattle.batch_rt.specs.Stores.{Each, store_state, store_sent}
+use Rattle.batch_rt.specs.Stores.{Each}
+use Rattle.batch_rt.specs.Batches.{store_view}
 use Rattle.batch_rt.proofs.CallLemmas.{store_done, caught_up}
 use Rattle.batch_rt.proofs.batch.BatchRuntime.do_call.Goals as goal
 
@@ -43,15 +44,10 @@ returns-clause-answered g c =
         done = store_done c.operate.new.store _ count (λ closed. subst (Each IsIdle) (sym ran.lanes)
             (c.in-Ok.ensures.idle
             (sym (ap (λ marks. marks.is_open) c.note_call.ensures.after) ∙ closed)));
-        reclaimed = caught_up c.reclaim.new.store c.args.self.now.delegates _ (record {
-          delegates = c.args.self.now.delegates;
-          state = store_state m c.operate.new.store;
-          marks = c.note_call.new.self;
-          sent = store_sent c.operate.new.store;
-          logs = c.operate.new.store.logs.items;
-          has_failed = c.args.self.now.has_failed;
-        }) refl ran.logs
-            (rw (ran.logs, ran.lanes) refl) c.in-Ok.ensures.caught_up;
+        reclaimed = caught_up c.reclaim.new.store c.args.self.now.delegates _
+            (store_view m c.args.self.now.delegates c.operate.new.store c.note_call.new.self
+            c.args.self.now.has_failed)
+            refl ran.logs (rw (ran.logs, ran.lanes) refl) c.in-Ok.ensures.caught_up;
         was_usable = usable;
         usable = usable;
       },

@@ -1,8 +1,9 @@
 use Rattle.std.proofs.Common.{rules, refl, sym, ap, ◌∙◌}
+use Rattle.std.proofs.lemmas.Bool.{false≢true}
 use Rattle.execution_definitions.specs.Meanings.{number_given}
 use Rattle.partition_check.proofs.marked.AcceptedLemmas.{delegable}
 use Rattle.delegation.proofs.plains.PlainLemmas.{length-delegated}
-use Rattle.batch_rt.proofs.CallLemmas.{store_done, open_closed}
+use Rattle.batch_rt.proofs.CallLemmas.{store_done}
 use Rattle.batch_rt.proofs.batch.BatchRuntime.do_delegate.Goals as goal
 
 pub invariant_of-self-in-Ok : goal.invariant_of-self-in-Ok
@@ -19,8 +20,8 @@ invariant_of-self-in-Ok g c =
             ∙ sym (length-delegated _ _ c.args.o.0 _ _ c.in_ok-set.ensures.after);
         lane_count = sent.lanes ∙ kept.lane_count;
         log_count = sym sent.logs.count ∙ kept.log_count;
-        idle = λ closed. absurd (open_closed c.args.self.now.marks.is_open opened
-            (sym (ap (λ marks. marks.is_open) c.in_ok-set.ensures.after) ∙ closed));
+        idle = λ closed. absurd (false≢true
+            (sym closed ∙ ap (λ marks. marks.is_open) c.in_ok-set.ensures.after ∙ opened));
       };
     }
 
@@ -40,8 +41,8 @@ returns-clause-answered g c =
         sent = search rules;
         logs = sent.logs;
         done = store_done c.send.new.store _ count (λ closed.
-            absurd (open_closed c.args.self.now.marks.is_open opened
-            (sym (ap (λ marks. marks.is_open) c.in_ok-set.ensures.after) ∙ closed)));
+            absurd (false≢true
+            (sym closed ∙ ap (λ marks. marks.is_open) c.in_ok-set.ensures.after ∙ opened)));
         reclaimed = tt;
         was_usable = usable;
         usable = usable;

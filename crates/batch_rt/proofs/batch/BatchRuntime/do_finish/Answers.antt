@@ -9,28 +9,20 @@ into_values-requires g c =
     let new = c.bring_all_home.new.store in
     idle_home new.objects.items new.lanes.items home.continues.whole home.idle
 
-pub returns-clause-values : goal.returns-clause-values
-returns-clause-values g c =
-    let home = c.in_ok-bring_all_home.ensures in
-    let new = c.bring_all_home.new.store in
-    values_out g.C.Class.meaning new.lanes.items new.objects.items c.in_ok-values.values.items
-    (idle_home new.objects.items new.lanes.items home.continues.whole home.idle)
-    c.in_ok-values.ensures
-    ∙ ap (λ state. state.values) home.continues.state
-
-pub returns-clause-total : goal.returns-clause-total
-returns-clause-total g c =
-    let home = c.in_ok-bring_all_home.ensures in
-    let new = c.bring_all_home.new.store in
-    sym (idle_total g.C.Class.meaning new.total new.lanes.items home.idle)
-    ∙ ap (λ state. state.total) home.continues.state
-
-pub returns-clause-logs : goal.returns-clause-logs
-returns-clause-logs g c =
+pub returns : goal.returns
+returns g c =
+    let m = g.C.Class.meaning in
     let home = c.in_ok-bring_all_home.ensures in
     let on = home.continues in
     let new = c.bring_all_home.new.store in
     let kept = c.args.self.kept c.requires.usable in
-    sym (idle_sent new.logs.items new.lanes.items home.idle
-    (sym on.logs.count ∙ kept.log_count ∙ sym (on.lanes ∙ kept.lane_count)))
-    ∙ on.sent
+    record {
+      values = values_out m new.lanes.items new.objects.items c.in_ok-values.values.items
+          (idle_home new.objects.items new.lanes.items on.whole home.idle) c.in_ok-values.ensures
+          ∙ ap (λ state. state.values) on.state;
+      total = sym (idle_total m new.total new.lanes.items home.idle)
+          ∙ ap (λ state. state.total) on.state;
+      logs = sym (idle_sent new.logs.items new.lanes.items home.idle
+          (sym on.logs.count ∙ kept.log_count ∙ sym (on.lanes ∙ kept.lane_count)))
+          ∙ on.sent;
+    }

@@ -3,7 +3,7 @@ use Rattle.execution_definitions.specs.declared.call.Reply.TheVariants as reply
 use Rattle.delegation.proofs.plains.PlainLemmas.{length-noted}
 use Rattle.std.specs.Prelude.{slice_get}
 use Rattle.std.specs.Option.{option_map}
-use Rattle.batch_rt.specs.Stores.{store_state, store_sent}
+use Rattle.batch_rt.specs.Batches.{store_view}
 use Rattle.batch_rt.proofs.CallLemmas.{store_done, caught_up}
 use Rattle.batch_rt.proofs.batch.BatchRuntime.do_get.Goals as goal
 
@@ -47,14 +47,10 @@ returns g c =
               logs = on.logs;
               done = store_done new _ count (λ closed. c.in-Ok.ensures.idle
                   (sym (ap (λ marks. marks.is_open) c.note_call.ensures.after) ∙ closed));
-              reclaimed = caught_up new c.args.self.now.delegates _ (record {
-                delegates = c.args.self.now.delegates;
-                state = store_state m new;
-                marks = c.note_call.new.self;
-                sent = store_sent new;
-                logs = new.logs.items;
-                has_failed = c.args.self.now.has_failed;
-              }) refl refl refl c.in-Ok.ensures.caught_up;
+              reclaimed = caught_up new c.args.self.now.delegates _
+                  (store_view m c.args.self.now.delegates new c.note_call.new.self
+                  c.args.self.now.has_failed)
+                  refl refl refl c.in-Ok.ensures.caught_up;
               was_usable = usable;
               usable = usable;
             },
