@@ -1,3 +1,10 @@
+pub mod CallLemmas
+pub mod EnabledLemmas
+pub mod EventLemmas
 pub mod FollowLemmas
 pub mod ReachedLemmas
+pub mod KeptLemmas
+pub mod PlaceLemmas
+pub mod QueueLemmas
 pub mod RuleLemmas
+pub mod StoreLemmas

@@ -10,27 +10,26 @@ use Rattle.std.proofs.lemmas.Option.{slice_get_within, same_Some, get_or_from_sl
 use Rattle.ss_base.specs.declared.ids.Event.{Event}
 use Rattle.ss_base.specs.declared.ids.Event.TheVariants as event
 use Rattle.execution_definitions.specs.declared.call.Call.{Call}
-use Rattle.execution_definitions.specs.declared.call.Call.TheVariants.{Make, MakeFixed, Begin, Delegate, Write, Get, End, Total}
 use Rattle.execution_definitions.specs.declared.refusal.Refusal.{Refusal}
-use Rattle.execution_definitions.specs.Held.{last_set}
 use Rattle.execution_definitions.specs.Refusals.{breaks}
 use Rattle.execution_definitions.specs.Soundness.{IsSound, first_refusal}
 use Rattle.execution_definitions.specs.Meanings.{Meaning, shape_of, shapes_of}
 use Rattle.execution_definitions.specs.Sequential.{State, initial_state, reply_of, sequential_state, sequential_replies}
 use Rattle.execution_definitions.specs.Programs.{sound_front}
-use Rattle.interleavings.specs.Machines.{Entry, Core, MachineState, is_empty, front_at, is_idle_for, entries_done, may_take, call_event, initial_machine, judged_event, taken_event, calls_taken, next_call, may_take_some, is_enabled, program_event, event_taken, after_event, after_schedule, IsFinished, taken, least_busy, event_by_rule, FollowsRule}
+use Rattle.interleavings.specs.Machines.{Entry, Core, MachineState, is_empty, front_at, entries_done, may_take, call_event, initial_machine, judged_event, taken_event, calls_taken, next_call, may_take_some, is_enabled, program_event, event_taken, after_event, after_schedule, IsFinished, taken, least_busy, event_by_rule, FollowsRule}
 use Rattle.execution_definitions.proofs.shapes.SoundnessLemmas.{IsSound-push, first_refusal-at, first_refusal-sound}
 use Rattle.execution_definitions.proofs.programs.SequentialLemmas.{shapes_of-push, sequential_replies-push}
 use Rattle.execution_definitions.proofs.programs.ProgramsLemmas.{sound_front-sound, sound_front-at}
 use Rattle.interleavings.proofs.programs.OperatedLemmas.{JoinsInAnyOrder}
 use Rattle.interleavings.proofs.machines.DrainLemmas.{EachEntry, EachLane, nothing_done}
 use Rattle.schedule_core.specs.Theorem.{IsAtEnd, GivesTheSame, SchedulesGiveTheSame, ReplaysGiveTheSame, DrainIsByEvents}
-use Rattle.schedule_core.proofs.FollowLemmas.{all_idle, IsHeldIn, Follows, follows-taken, follows-call, reply_same}
+use Rattle.schedule_core.proofs.EnabledLemmas.{no_fronts, may_take-empty}
+use Rattle.schedule_core.proofs.FollowLemmas.{IsHeldIn, Follows, follows-taken, follows-call, reply_same}
 
 -- ---- places of a list
 
 module _ {A : Type 0} where
-  take-next : (xs : List A) (k : ℕ) (x : A) → slice_get xs k ≡ Some x →
+  pub take-next : (xs : List A) (k : ℕ) (x : A) → slice_get xs k ≡ Some x →
       take (k + 1) xs ≡ take k xs ++ x ∷ []
   take-next xs k x is =
       take_more xs k x (slice_get_within xs k x is)
@@ -60,12 +59,6 @@ module _ {A : Type 0} where
       EachLane P first (map (λ lane. []) numbers)
   each_empty P first [] = tt
   each_empty P first (number ∷ numbers) = (tt, each_empty P (suc first) numbers)
-
-  no_fronts : (lanes : List (List A)) → ((k : ℕ) → is_some (front_at lanes k) ≡ false) →
-      list_all is_empty lanes ≡ true
-  no_fronts [] none = refl
-  no_fronts ([] ∷ lanes) none = no_fronts lanes (λ k. none (suc k))
-  no_fronts ((entry ∷ rest) ∷ lanes) none = let clash : true ≡ false = none zero in absurd cc
 
 nothing_waits : {A : Type 0} (lanes : List (List A)) → list_all is_empty lanes ≡ true →
     EachEntry (EachEntry (λ entry. ⊥)) lanes
@@ -235,25 +228,6 @@ module _ {C O R : Type 0} (m : Meaning C O R) where
 
     -- ---- at the end
 
-    may_idle : (core : Core C O R) (last : Option ℕ) → list_all is_empty core.lanes ≡ true →
-        is_idle_for core last ≡ true
-    may_idle core None empty = refl
-    may_idle core (Some set) empty = all_idle core.lanes _ empty
-
-    -- where nothing waits, every call can be taken
-    may_take-empty : (taken : List (Call C O)) (core : Core C O R) (call : Call C O) →
-        list_all is_empty core.lanes ≡ true → may_take m taken core call ≡ true
-    may_take-empty taken core (Make value by) empty = refl
-    may_take-empty taken core (MakeFixed value) empty = refl
-    may_take-empty taken core Begin empty = refl
-    may_take-empty taken core (Delegate object op reading) empty = refl
-    may_take-empty taken core (Write object op) empty =
-        may_idle core (last_set (shapes_of m taken) object.0) empty
-    may_take-empty taken core (Get object) empty =
-        may_idle core (last_set (shapes_of m taken) object.0) empty
-    may_take-empty taken core End empty = empty
-    may_take-empty taken core Total empty = refl
-
     module _ (machine : MachineState C O R) (reached : IsReached n calls machine)
         (empty : list_all is_empty machine.core.lanes ≡ true) where
       abbrev made : List (Call C O)
@@ -290,7 +264,7 @@ module _ {C O R : Type 0} (m : Meaning C O R) where
           end_at (whole ∙ sym (sound_front-sound m calls sound))
           (stop ∙ sym (first_refusal-sound (shapes_of m calls) sound))
       end_found (Some call) at stop done =
-          let may = may_take-empty made machine.core call empty in absurd cc
+          let may = may_take-empty m made machine.core call empty in absurd cc
 
       end_stopped : (stop : Option Refusal) → machine.stop ≡ stop →
           IsStopped calls machine.next stop →

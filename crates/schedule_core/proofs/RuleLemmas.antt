@@ -2,7 +2,7 @@
 --
 -- Each event by the rule takes a call, or refuses one, or takes what waits, of which a call brings
 -- one at most.
-use Rattle.std.proofs.Common.{◌≡◌, ℕ, zero, suc, ◌+◌, ◌*◌, ◌<◌, ◌≤◌, Bool, true, false, Option, Some, None, List, [], ◌∷◌, ◌++◌, length, refl, sym, ap, ◌∙◌, subst, arith, add-one, length-append}
+use Rattle.std.proofs.Common.{◌≡◌, ℕ, zero, suc, ◌+◌, ◌-◌, ◌*◌, ◌<◌, ◌≤◌, Bool, true, false, Option, Some, None, List, [], ◌∷◌, ◌++◌, length, refl, sym, ap, ◌∙◌, subst, arith, add-one, length-append}
 use Rattle.std.specs.Prelude.{slice_get, is_some, if◌then◌else◌}
 use Rattle.std.specs.Option.{option_map}
 use Rattle.std.proofs.lemmas.Option.{slice_get_within, same_Some}
@@ -18,7 +18,7 @@ use Rattle.schedule_core.specs.Theorem.{ReplaysAreOne}
 
 module _ {A : Type 0} where
   -- how much waits
-  abbrev waiting : List (List A) → ℕ
+  abbrev pub waiting : List (List A) → ℕ
   waiting [] = 0
   waiting (entries ∷ lanes) = length entries + waiting lanes
 
@@ -58,18 +58,18 @@ module _ {A : Type 0} where
       subst (HasFront ((entry ∷ rest) ∷ lanes)) same
       (record { entry = entry; front = refl; less = omega arith })
 
-if_is : {A : Type 0} (test : Bool) (one other : A) → test ≡ true →
+pub if_is : {A : Type 0} (test : Bool) (one other : A) → test ≡ true →
     (if test then one else other) ≡ one
 if_is true one other is = refl
 if_is false one other is = absurd cc
 
-if_not : {A : Type 0} (test : Bool) (one other : A) → test ≡ false →
+pub if_not : {A : Type 0} (test : Bool) (one other : A) → test ≡ false →
     (if test then one else other) ≡ other
 if_not true one other is = absurd cc
 if_not false one other is = refl
 
 -- a call may still be refused
-still : Option Refusal → ℕ
+pub still : Option Refusal → ℕ
 still None = 1
 still (Some refusal) = 0
 
@@ -285,6 +285,48 @@ module _ {C O R : Type 0} (m : Meaning C O R) where
     within_schedule (e ∷ rest) machine within =
         within_schedule rest (after_event m calls machine e)
         (within_event machine e (is_enabled m calls machine e) within)
+
+    -- the event by the rule leaves fewer
+    by_which : (machine : MachineState C O R) (e : Event) (enabled : Bool) (busy : Option ℕ) →
+        (if enabled then Some event.Program
+        else option_map (λ lane. event.Delegate (record { 0 = lane })) busy) ≡ Some e →
+        is_enabled m calls machine event.Program ≡ enabled →
+        least_busy machine.core.lanes ≡ busy → Lessens machine (after_event m calls machine e)
+    by_which machine e true busy is enabled least =
+        subst (λ x. Lessens machine (after_event m calls machine x)) (same_Some _ _ is)
+        (event_lessens machine event.Program enabled
+        (program_lessens machine machine.stop refl enabled))
+    by_which machine e false None is enabled least = absurd cc
+    by_which machine e false (Some lane) is enabled least =
+        let found = has_front machine.core.lanes lane least in
+        subst (λ x. Lessens machine (after_event m calls machine x)) (same_Some _ _ is)
+        (event_lessens machine (event.Delegate (record { 0 = lane })) (ap is_some found.front)
+        (taken_lessens machine lane found))
+
+    -- so many events by the rule are left at most
+    abbrev pub events_left : MachineState C O R → ℕ
+    events_left machine =
+        2 * length calls + waiting machine.core.lanes + still machine.stop - 2 * machine.next
+
+    left_within : (j : ℕ) (machine : MachineState C O R) → IsLeft j machine →
+        events_left machine ≤ j
+    left_within j machine left = let most = left.most in omega arith
+
+    one_less : (k : ℕ) (next : MachineState C O R) →
+        (0 < k) × ((j : ℕ) → k ≡ suc j → IsLeft j next) → events_left next < k
+    one_less zero next lessens = absurd (omega (arith, lessens.0))
+    one_less (suc j) next lessens =
+        let less = left_within j next (lessens.1 j refl) in omega arith
+
+    pub events_left-less : (machine : MachineState C O R) (e : Event) →
+        machine.next ≤ length calls → event_by_rule m calls machine ≡ Some e →
+        events_left (after_event m calls machine e) < events_left machine
+    events_left-less machine e within is =
+        let left : IsLeft (events_left machine) machine =
+        record { within = within; most = omega arith } in
+        one_less (events_left machine) (after_event m calls machine e)
+        (by_which machine e (is_enabled m calls machine event.Program)
+        (least_busy machine.core.lanes) is refl refl (events_left machine) left)
 
   -- every schedule has one replay
   pub replays_are_one : ReplaysAreOne m

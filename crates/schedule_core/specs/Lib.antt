@@ -1,1 +1,5 @@
 pub mod Theorem
+pub mod Queues
+pub mod Stores
+pub mod Kept
+pub mod Steps

@@ -1,9 +1,22 @@
 //! The machine of lanes under a given schedule, without threads.
+//!
+//! A [`Machine`] takes the events of a program and of its delegates one at a time, in the order that
+//! its caller gives, and every call returns. The laws say that no schedule changes what a program leaves
+//! and is answered.
 #![tactic(auto)]
 
+mod calls;
+mod events;
 mod laws;
+mod machine;
+mod parts;
+mod queues;
+mod step;
+mod store;
 
 pub use laws::{
     a_drain_is_by_events, every_replay_gives_the_same, every_schedule_gives_the_same,
     every_schedule_has_one_replay,
 };
+pub use machine::Machine;
+pub use step::Step;
