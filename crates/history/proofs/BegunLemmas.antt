@@ -48,7 +48,7 @@ left_past done first (suc count) place past =
     times-one_left (is_among done first) first (left done (suc first) count) place (omega arith)
     ∙ left_past done (suc first) count place (omega arith)
 
-false_true : (b : Bool) → b ≡ false → b ≡ true → ⊥
+pub false_true : (b : Bool) → b ≡ false → b ≡ true → ⊥
 false_true b is_false is_true = cc
 
 -- what is done is not left
@@ -136,16 +136,16 @@ left_rises done first (suc count) before place after is other low below absent =
           absurd cc
 
 -- where a place of two joined lists stands
-record StandsLater (front rest before : List ℕ) (place : ℕ) (after : List ℕ) : Type 0 where
+pub record StandsLater (front rest before : List ℕ) (place : ℕ) (after : List ℕ) : Type 0 where
   pub more : List ℕ
   pub before_is : before ≡ front ++ more
   pub rest_is : rest ≡ more ++ place ∷ after
 
-record StandsEarlier (front before : List ℕ) (place : ℕ) : Type 0 where
+pub record StandsEarlier (front before : List ℕ) (place : ℕ) : Type 0 where
   pub more : List ℕ
   pub front_is : front ≡ before ++ place ∷ more
 
-stands : (front rest before : List ℕ) (place : ℕ) (after : List ℕ) →
+pub stands : (front rest before : List ℕ) (place : ℕ) (after : List ℕ) →
     front ++ rest ≡ before ++ place ∷ after →
     StandsEarlier front before place ⊎ StandsLater front rest before place after
 stands [] rest before place after is = inr (record { more = before; before_is = refl; rest_is = is })
@@ -166,7 +166,7 @@ stands (x ∷ front) rest (y ∷ before) place after is =
     }))
     (stands front rest before place after tails)
 
-absent_times : (front : List ℕ) (place : ℕ) → is_among front place ≡ false →
+pub absent_times : (front : List ℕ) (place : ℕ) → is_among front place ≡ false →
     times_among front place ≡ 0
 absent_times [] place absent = refl
 absent_times (x ∷ front) place absent =
@@ -179,7 +179,7 @@ absent_times (x ∷ front) place absent =
           let differ : x ≢ place = grind (arith, nat_tests) in
           times-one_left false x front place differ ∙ again none
 
-present_times : (front : List ℕ) (place : ℕ) → is_among front place ≡ true →
+pub present_times : (front : List ℕ) (place : ℕ) → is_among front place ≡ true →
     1 ≤ times_among front place
 present_times front place among =
     let p = part_among front place among in
@@ -187,7 +187,7 @@ present_times front place among =
     let f = times-here p.front place p.rest in
     omega arith
 
-earlier_place : (a b : ℕ) (c : Bool) → (nat_lt a b && c) ≡ true → a < b
+pub earlier_place : (a b : ℕ) (c : Bool) → (nat_lt a b && c) ≡ true → a < b
 earlier_place a b c both = by (nat_lt a b) refl both where
   by : (t : Bool) → nat_lt a b ≡ t → (t && c) ≡ true → a < b
   by true is more = grind (arith, nat_tests)
@@ -247,7 +247,7 @@ module _ (n : ℕ) (calls : List Shape) (front : List ℕ) (begun : IsBegun n ca
   }
 
 -- a front of a legal merge is begun
-front_begun : (n : ℕ) (calls : List Shape) (front : List ℕ) → BeginsMerge n calls front →
+pub front_begun : (n : ℕ) (calls : List Shape) (front : List ℕ) → BeginsMerge n calls front →
     IsBegun n calls front
 front_begun n calls front goes = record {
   at_most_once = λ place. most place (nat_lt place (length calls)) refl;

@@ -4,3 +4,8 @@ pub mod PlaceLemmas
 pub mod MoveLemmas
 pub mod MergesLemmas
 pub mod LogsLemmas
+pub mod turns
+pub mod PicksLemmas
+pub mod JudgedLemmas
+pub mod ReplayLemmas
+pub mod OrdersLemmas

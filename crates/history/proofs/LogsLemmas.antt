@@ -22,7 +22,7 @@ module _ {A : Type 0} where
   filter-out test x rest is = rw is refl
 
   -- one element more
-  take-next : (xs : List A) (k : ℕ) (x : A) → slice_get xs k ≡ Some x →
+  pub take-next : (xs : List A) (k : ℕ) (x : A) → slice_get xs k ≡ Some x →
       take (k + 1) xs ≡ take k xs ++ x ∷ []
   take-next xs k x is =
       take_more xs k x (slice_get_within xs k x is)

@@ -30,7 +30,7 @@ split_at (first ∷ list) (suc place) within =
       count = ap suc s.count;
     }
 
-no_lane : (n : ℕ) (before : List Shape) (call : Shape) → is_delegate call ≡ false →
+pub no_lane : (n : ℕ) (before : List Shape) (call : Shape) → is_delegate call ≡ false →
     lane_of_call n before (Some call) ≡ None
 no_lane n before (make by) none = refl
 no_lane n before make_fixed none = refl
@@ -41,7 +41,7 @@ no_lane n before (get o) none = refl
 no_lane n before end none = refl
 no_lane n before total none = refl
 
-both : (a b : Bool) → a ≡ true → b ≡ true → (a && b) ≡ true
+pub both : (a b : Bool) → a ≡ true → b ≡ true → (a && b) ≡ true
 both true b first second = second
 both false b first second = absurd cc
 
