@@ -1,0 +1,5 @@
+pub mod GivenLemmas
+pub mod NumbersLemmas
+pub mod PiecesLemmas
+pub mod RestsLemmas
+pub mod WordsLemmas
