@@ -6,5 +6,6 @@ pub mod ReachedLemmas
 pub mod KeptLemmas
 pub mod PlaceLemmas
 pub mod QueueLemmas
+pub mod ReplayLemmas
 pub mod RuleLemmas
 pub mod StoreLemmas

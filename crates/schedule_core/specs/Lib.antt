@@ -3,3 +3,4 @@ pub mod Queues
 pub mod Stores
 pub mod Kept
 pub mod Steps
+pub mod Outcomes

@@ -2,13 +2,13 @@
 ghost use Rattle.std.specs.Prelude.{◌≡◌, ◌≤◌, [], ◌∷◌, ◌++◌, true, false, if◌then◌else◌, IfOk, OnOk};
 ghost use Rattle.ss_base.specs.declared.ids.Event.{Event};
 ghost use Rattle.ss_base.specs.declared.ids.Event.TheVariants as event;
-ghost use Rattle.interleavings.specs.Machines.{initial_machine, is_enabled, after_event, IsFinished};
+ghost use Rattle.interleavings.specs.Machines.{initial_machine, is_enabled, after_event, IsFinished, event_by_rule};
 ghost use Rattle.schedule_core.specs.Kept.{program_of, machine_of, IsKept};
 ghost use Rattle.schedule_core.specs.Steps.{IsAnswered};
 
 use crate::calls::{answer, may_take, takes_effect};
 use crate::parts::Parts;
-use crate::queues::{all_idle, empty_lanes};
+use crate::queues::{all_idle, empty_lanes, least_busy};
 use crate::step::Step;
 use crate::store::{Store, run_front};
 use class_laws::{LocalClass, LocalReducible};
@@ -177,5 +177,20 @@ pub fn take_event<C: LocalClass>(parts: &mut Parts<C>, e: Event) -> Result<Step,
     match e {
         Event::Program => take_call(parts),
         Event::Delegate(lane) => take_front(parts, lane),
+    }
+}
+
+/// The event that comes next where no schedule says so: the program's where it is enabled, else that
+/// of the least lane in which something waits.
+pub fn event_by_rule<C: LocalClass>(parts: &Parts<C>) -> Option<Event>
+    requires { IsKept C.local_meaning parts.now }
+    ensures { result ≡ event_by_rule C.local_meaning (program_of parts.now) (machine_of parts.now) }
+{
+    if may_take_next(parts) {
+        return Some(Event::Program);
+    }
+    match least_busy(&parts.store.lanes) {
+        None => None,
+        Some(lane) => Some(Event::Delegate(lane)),
     }
 }
