@@ -8,7 +8,7 @@ use Rattle.std.specs.Option.{option_map_or, option_or}
 use Rattle.std.proofs.lemmas.List.{take_more, drop_more, take-append-drop, length-take-le}
 use Rattle.std.proofs.lemmas.Option.{slice_get_within, get_or_from_slice_get}
 use Rattle.ss_base.specs.Shelves.{Contents, ReadsWhole}
-use Rattle.ss_top.specs.declared.command.Command.{Command}
+use Rattle.command_line.specs.declared.command.Command.{Command}
 use Rattle.ss_top.specs.declared.status.LimitHit.{LimitHit}
 use Rattle.ss_top.specs.Inputs.{Input, inputs_of}
 use Rattle.ss_top.specs.Limits.{limit_passed}

@@ -9,20 +9,22 @@ use Rattle.std.specs.List.{find}
 use Rattle.std.proofs.lemmas.Bool.{cases_Bool}
 use Rattle.script_lang.specs.Lines.{lines}
 use Rattle.ss_base.specs.declared.limits.TheConstants as limits
-use Rattle.ss_top.specs.declared.command.Command.{Command}
-use Rattle.ss_top.specs.declared.command.Command.TheVariants.{Index, Script, Gen}
+use Rattle.command_line.specs.declared.command.Command.{Command}
+use Rattle.command_line.specs.declared.setting.Mode.{Mode}
+use Rattle.command_line.specs.declared.command.Command.TheVariants.{Index, Script, Gen}
 use Rattle.ss_top.specs.declared.status.LimitHit.{LimitHit}
 use Rattle.ss_top.specs.declared.status.LimitHit.TheVariants.{Names, Document, AllDocuments}
 use Rattle.ss_top.specs.declared.status.LimitHit.TheVariants.{StopBytes, ScriptBytes, ScriptLines}
 use Rattle.ss_top.specs.declared.status.Which.{Which}
 use Rattle.ss_top.specs.declared.status.Which.TheVariants as input
 use Rattle.std.specs.Prelude.{IsSome, is_some}
-use Rattle.ss_top.specs.Inputs.{Input, documents_from, inputs_of, is_same_input, name_of}
+use Rattle.ss_top.specs.Inputs.{Input, documents_from, index_inputs, inputs_of, is_same_input}
+use Rattle.ss_top.specs.Inputs.{name_of}
 use Rattle.ss_top.specs.Limits.{first_limit, first_limit_from, limit_passed, limit_over}
 use Rattle.ss_top.specs.Limits.{script_limit}
 use Rattle.ss_top.specs.Answers.{bytes_behind, first_passed, limit_asked}
 use Rattle.ss_top.specs.Answers.{prints, answer_after}
-use Rattle.ss_top.specs.CommandLine.{CanBeAsked}
+use Rattle.command_line.specs.CommandLine.{CanBeAsked}
 use Rattle.index_definitions.specs.IndexText.{index_text}
 use Rattle.ss_top.proofs.AnswersLemmas.{or_none, answer_after-all}
 
@@ -89,15 +91,15 @@ name_of-other i (name ∷ names) = name_of-other (i + 1) names
 -- the stop list among the inputs of `index`
 pub name_of-stop :
     (stop : Option (List ℕ)) (names : List (List ℕ))
-    → name_of (inputs_of (Index stop names)) input.Stop ≡ stop
+    → name_of (index_inputs stop names) input.Stop ≡ stop
 name_of-stop None names = (name_of-other 1 names).0
 name_of-stop (Some stop) names = refl
 
 -- it has no script and no schedule
 pub name_of-none :
     (stop : Option (List ℕ)) (names : List (List ℕ))
-    → (name_of (inputs_of (Index stop names)) input.Script ≡ None)
-    × (name_of (inputs_of (Index stop names)) input.Schedule ≡ None)
+    → (name_of (index_inputs stop names) input.Script ≡ None)
+    × (name_of (index_inputs stop names) input.Schedule ≡ None)
 name_of-none None names = ((name_of-other 1 names).1, (name_of-other 1 names).2)
 name_of-none (Some stop) names = ((name_of-other 1 names).1, (name_of-other 1 names).2)
 
@@ -139,7 +141,7 @@ limit_over-none most n hit none =
 -- inputs of `index` that pass no limit, without a stop list
 pub index_within :
     (names documents : List (List ℕ))
-    → limit_asked (Index None names) ≡ None
+    → limit_over limits.NAMES (length names) (Names (length names)) ≡ None
     → first_passed 0 (documents_from 1 names) documents ≡ None
     → length documents ≡ length (documents_from 1 names)
     → (length documents ≤ limits.NAMES) × (first_limit documents ≡ None)
@@ -151,7 +153,7 @@ index_within names documents asked none count =
 -- and with one
 pub index_within_stop :
     (name : List ℕ) (names : List (List ℕ)) (stop : List ℕ) (documents : List (List ℕ))
-    → limit_asked (Index (Some name) names) ≡ None
+    → limit_over limits.NAMES (length names) (Names (length names)) ≡ None
     → first_passed 0 ((input.Stop, name) ∷ documents_from 1 names) (stop ∷ documents) ≡ None
     → length documents ≡ length (documents_from 1 names)
     → (length stop ≤ limits.STOP_LIST_BYTES) × (length documents ≤ limits.NAMES)
@@ -212,12 +214,13 @@ IsSome-name_of (i ∷ is) (suc k) which name here =
 -- inputs of `index` that aren't too many
 pub few_inputs :
     (stop : Option (List ℕ)) (names : List (List ℕ)) → length names ≤ limits.NAMES
-    → (length (inputs_of (Index stop names)) ≤ limits.NAMES + 1)
-    × (0 < length (inputs_of (Index stop names)) → limit_asked (Index stop names) ≡ None)
+    → (length (index_inputs stop names) ≤ limits.NAMES + 1)
+    × (0 < length (index_inputs stop names)
+    → limit_over limits.NAMES (length names) (Names (length names)) ≡ None)
 few_inputs stop names few =
     let fits : nat_lt limits.NAMES (length names) ≡ false = grind arith in
     let count = length-documents_from 1 names in (
-      elim stop as (λ o. length (inputs_of (Index o names)) ≤ limits.NAMES + 1) [
+      elim stop as (λ o. length (index_inputs o names) ≤ limits.NAMES + 1) [
         | None ↦ omega (arith, count, few)
         | Some name ↦ omega (arith, count, few)
       ],
@@ -233,37 +236,38 @@ Fit command texts =
 
 -- those of `index` without a stop list
 pub Fit-index :
-    (names documents : List (List ℕ)) → Fit (Index None names) documents
+    (delegates : ℕ) (mode : Mode) (ring : ℕ) (names documents : List (List ℕ))
+    → Fit (Index delegates mode ring None names) documents
     → (1 ≤ length documents) × (length documents ≤ limits.NAMES) × (first_limit documents ≡ None)
-    × (answer_after (Some (Index None names)) documents
+    × (answer_after (Some (Index delegates mode ring None names)) documents
     ≡ Some (prints (index_text documents [])))
-Fit-index names documents (can, count, asked, none) =
+Fit-index delegates mode ring names documents (can, count, asked, none) =
     let some = length-documents_from 1 names in
-    let limit = asked (omega (arith, some, can)) in
+    let limit = asked (omega (arith, some, can.1)) in
     let within = index_within names documents limit none count in (
-      omega (arith, some, can, count),
+      omega (arith, some, can.1, count),
       within.0,
       within.1,
-      answer_after-all (Index None names) limit documents none count,
+      answer_after-all (Index delegates mode ring None names) limit documents none count,
     )
 
 -- and with one
 pub Fit-index-stop :
-    (name : List ℕ) (names : List (List ℕ)) (stop : List ℕ) (documents : List (List ℕ))
-    → Fit (Index (Some name) names) (stop ∷ documents)
+    (delegates : ℕ) (mode : Mode) (ring : ℕ) (name : List ℕ) (names : List (List ℕ)) (stop : List ℕ) (documents : List (List ℕ))
+    → Fit (Index delegates mode ring (Some name) names) (stop ∷ documents)
     → (length stop ≤ limits.STOP_LIST_BYTES)
     × (1 ≤ length documents) × (length documents ≤ limits.NAMES) × (first_limit documents ≡ None)
-    × (answer_after (Some (Index (Some name) names)) (stop ∷ documents)
+    × (answer_after (Some (Index delegates mode ring (Some name) names)) (stop ∷ documents)
     ≡ Some (prints (index_text documents stop)))
-Fit-index-stop name names stop documents (can, count, asked, none) =
+Fit-index-stop delegates mode ring name names stop documents (can, count, asked, none) =
     let some = length-documents_from 1 names in
     let limit = asked (omega arith) in
     let within = index_within_stop name names stop documents limit none (omega (arith, count)) in (
       within.0,
-      omega (arith, some, can, count),
+      omega (arith, some, can.1, count),
       within.1,
       within.2,
-      answer_after-all (Index (Some name) names) limit (stop ∷ documents) none count,
+      answer_after-all (Index delegates mode ring (Some name) names) limit (stop ∷ documents) none count,
     )
 
 -- what stands behind the first

@@ -1,5 +1,4 @@
 pub mod AnswersLemmas
-pub mod CommandLineLemmas
 pub mod GeneratedLemmas
 pub mod InputsLemmas
 pub mod LimitsLemmas

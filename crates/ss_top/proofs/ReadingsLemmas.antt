@@ -12,7 +12,7 @@ use Rattle.ss_base.specs.declared.outside.Shelf
 use Rattle.ss_base.specs.Faults.{Rose}
 use Rattle.ss_base.specs.Shelves.{Contents, IsHeld, IsSteady, ReadsWhole, name_held, last_name}
 use Rattle.ss_base.proofs.ShelvesLemmas.{last_name-append}
-use Rattle.ss_top.specs.declared.command.Command.{Command}
+use Rattle.command_line.specs.declared.command.Command.{Command}
 use Rattle.ss_top.specs.declared.status.Which.{Which}
 use Rattle.ss_top.specs.Inputs.{Input, inputs_of, inputs_for}
 use Rattle.ss_top.specs.Limits.{limit_passed}

@@ -8,7 +8,7 @@ use Rattle.std.proofs.lemmas.List.{take_all}
 use Rattle.ss_base.specs.declared.outside.Shelf
 use Rattle.ss_base.specs.Faults.{Rose}
 use Rattle.ss_base.specs.Shelves.{Contents}
-use Rattle.ss_top.specs.declared.command.Command.{Command}
+use Rattle.command_line.specs.declared.command.Command.{Command}
 use Rattle.ss_top.specs.declared.commands.Printed.{Printed}
 use Rattle.ss_top.specs.declared.no_text.NoText.{NoText}
 use Rattle.ss_top.specs.declared.no_text.NoText.TheVariants.{ReadFault, Limit, Text, OutOfMemory}

@@ -13,8 +13,8 @@ use Rattle.script_lang.specs.declared.fault.ScriptFault.{ScriptFault}
 use Rattle.script_lang.specs.ScriptAnswers.{ShownRecord, script_answer}
 use Rattle.ss_base.specs.declared.limits.TheConstants as limits
 use Rattle.ss_base.specs.Shelves.{Contents}
-use Rattle.ss_top.specs.declared.command.Command.{Command}
-use Rattle.ss_top.specs.declared.command.Command.TheVariants.{Index, Script, Gen}
+use Rattle.command_line.specs.declared.command.Command.{Command}
+use Rattle.command_line.specs.declared.command.Command.TheVariants.{Index, Script, Gen}
 use Rattle.ss_top.specs.declared.status.LimitHit.{LimitHit}
 use Rattle.ss_top.specs.declared.status.LimitHit.TheVariants.{Names}
 use Rattle.ss_top.specs.declared.status.TextFault.{TextFault}
@@ -76,17 +76,17 @@ first_passed before (input ∷ inputs) (text ∷ texts) =
 
 -- the limit that a command passes by what it asks for, before anything is read
 abbrev pub limit_asked : Command → Option LimitHit
-limit_asked (Index stop names) = limit_over limits.NAMES (length names) (Names (length names))
-limit_asked (Script name) = None
-limit_asked (Gen docs words seed) = generated_limit docs words seed
+limit_asked (Index delegates mode ring stop names) = limit_over limits.NAMES (length names) (Names (length names))
+limit_asked (Script delegates mode ring name) = None
+limit_asked (Gen delegates mode ring docs words seed) = generated_limit docs words seed
 
 -- what the texts of all inputs call for, where they pass no limit
 abbrev pub answer_to_all : Command → List (List ℕ) → Option Answer
-answer_to_all (Index None names) documents = Some (prints (index_text documents []))
-answer_to_all (Index (Some name) names) (stop ∷ documents) =
+answer_to_all (Index delegates mode ring None names) documents = Some (prints (index_text documents []))
+answer_to_all (Index delegates mode ring (Some name) names) (stop ∷ documents) =
     Some (prints (index_text documents stop))
-answer_to_all (Script name) (script ∷ []) = Some (shown_answer (script_answer script))
-answer_to_all (Gen docs words seed) [] =
+answer_to_all (Script delegates mode ring name) (script ∷ []) = Some (shown_answer (script_answer script))
+answer_to_all (Gen delegates mode ring docs words seed) [] =
     Some (prints (summary_of_index (index (generated_documents docs words seed) [])))
 answer_to_all command texts = None
 

@@ -6,8 +6,8 @@ use Rattle.std.specs.Prelude.{ℕ, ◌+◌, Bool, true, false, ◌==◌, List, [
 use Rattle.std.specs.declared.option.Option.{Option}
 use Rattle.std.specs.List.{find}
 use Rattle.std.specs.Option.{option_map}
-use Rattle.ss_top.specs.declared.command.Command.{Command}
-use Rattle.ss_top.specs.declared.command.Command.TheVariants as command
+use Rattle.command_line.specs.declared.command.Command.{Command}
+use Rattle.command_line.specs.declared.command.Command.TheVariants as command
 use Rattle.ss_top.specs.declared.status.Which.{Which}
 use Rattle.ss_top.specs.declared.status.Which.TheVariants.{Stop, Name, Script, Schedule}
 
@@ -20,12 +20,16 @@ abbrev pub documents_from : ℕ → List (List ℕ) → List Input
 documents_from i [] = []
 documents_from i (name ∷ names) = (Name i, name) ∷ documents_from (i + 1) names
 
+-- those of an index: its stop list, if it has one, and its documents
+abbrev pub index_inputs : Option (List ℕ) → List (List ℕ) → List Input
+index_inputs None names = documents_from 1 names
+index_inputs (Some stop) names = (Stop, stop) ∷ documents_from 1 names
+
 -- the inputs of a command, in the order in which they are read
 abbrev pub inputs_of : Command → List Input
-inputs_of (command.Index None names) = documents_from 1 names
-inputs_of (command.Index (Some stop) names) = (Stop, stop) ∷ documents_from 1 names
-inputs_of (command.Script name) = (Script, name) ∷ []
-inputs_of (command.Gen docs words seed) = []
+inputs_of (command.Index delegates mode ring stop names) = index_inputs stop names
+inputs_of (command.Script delegates mode ring name) = (Script, name) ∷ []
+inputs_of (command.Gen delegates mode ring docs words seed) = []
 
 -- those of a command line, which has none where its words are no command
 abbrev pub inputs_for : Option Command → List Input

@@ -1,5 +1,4 @@
 pub mod Statuses
-pub mod CommandLine
 pub mod Inputs
 pub mod Limits
 pub mod Generated

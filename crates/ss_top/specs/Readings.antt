@@ -6,7 +6,7 @@ use Rattle.std.specs.declared.option.Option.{Option}
 use Rattle.ss_base.specs.declared.outside.Shelf
 use Rattle.ss_base.specs.Faults.{Rose}
 use Rattle.ss_base.specs.Shelves.{Contents, IsHeld, IsSteady, last_name}
-use Rattle.ss_top.specs.declared.command.Command.{Command}
+use Rattle.command_line.specs.declared.command.Command.{Command}
 use Rattle.ss_top.specs.declared.status.LimitHit.{LimitHit}
 use Rattle.ss_top.specs.declared.status.LimitHit.TheVariants as limit
 use Rattle.ss_top.specs.declared.status.Which.{Which}

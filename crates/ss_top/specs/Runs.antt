@@ -12,8 +12,8 @@ use Rattle.ss_top.specs.declared.status.Status.TheVariants.{Done, Usage, ReadFau
 use Rattle.ss_top.specs.declared.status.Status.TheVariants.{OutOfMemory, Limit, Refused, Text}
 use Rattle.ss_top.specs.declared.status.TextFault.{TextFault}
 use Rattle.ss_top.specs.declared.status.TextFault.TheVariants as fault
-use Rattle.ss_top.specs.declared.command.Command.{Command}
-use Rattle.ss_top.specs.declared.command.Command.TheVariants.{Script}
+use Rattle.command_line.specs.declared.command.Command.{Command}
+use Rattle.command_line.specs.declared.command.Command.TheVariants.{Script}
 use Rattle.ss_top.specs.Answers.{Answer, over_limit, prints, has_fault, breaks_off, text_printed}
 use Rattle.ss_top.specs.Answers.{texts_held}
 use Rattle.ss_top.specs.Inputs.{inputs_for}
@@ -21,12 +21,12 @@ use Rattle.ss_top.specs.Texts.{status_text, names_in}
 
 -- a text can be refused: that of a script
 abbrev pub CanBreak : Option Command → Type 0
-CanBreak (Some (Script name)) = ⊤
+CanBreak (Some (Script delegates mode ring name)) = ⊤
 CanBreak command = ⊥
 
 -- a text can have this fault: only that of a script has a bad line of a script
 abbrev pub CanHave : Option Command → TextFault → Type 0
-CanHave (Some (Script name)) (fault.Script what) = ⊤
+CanHave (Some (Script delegates mode ring name)) (fault.Script what) = ⊤
 CanHave command fault = ⊥
 
 -- out gained the text that was called for, and nothing is left of the last input

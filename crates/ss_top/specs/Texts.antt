@@ -10,8 +10,8 @@ use Rattle.script_lang.specs.declared.fault.ScriptFault.{ScriptFault}
 use Rattle.script_lang.specs.declared.fault.ScriptKind.{ScriptKind}
 use Rattle.script_lang.specs.declared.fault.ScriptKind.TheVariants as kind
 use Rattle.script_lang.specs.Listings.{Listing, listing_of}
-use Rattle.ss_top.specs.declared.command.Command.{Command}
-use Rattle.ss_top.specs.declared.command.Command.TheVariants as command
+use Rattle.command_line.specs.declared.command.Command.{Command}
+use Rattle.command_line.specs.declared.command.Command.TheVariants as command
 use Rattle.ss_top.specs.declared.status.Which.TheVariants.{Name}
 use Rattle.ss_top.specs.declared.status.LimitHit.{LimitHit}
 use Rattle.ss_top.specs.declared.status.LimitHit.TheVariants.{Names, Document, AllDocuments}
@@ -147,5 +147,5 @@ names_listed (Err fault) = []
 
 -- those of a command's script, by the texts of the command's inputs
 abbrev pub names_in : Option Command → List (List ℕ) → List (List ℕ)
-names_in (Some (command.Script name)) (script ∷ []) = names_listed (listing_of script)
+names_in (Some (command.Script delegates mode ring name)) (script ∷ []) = names_listed (listing_of script)
 names_in command texts = []

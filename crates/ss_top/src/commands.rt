@@ -4,7 +4,7 @@ ghost use Rattle.std.specs.Prelude.{◌≡◌, ◌≢◌, ◌+◌, ◌<◌, ◌�
 ghost use Rattle.std.specs.Prelude.{IfOk, IfSome, OnSome, MatchOption};
 ghost use Rattle.ss_base.specs.declared.limits.TheConstants as limits;
 ghost use Rattle.ss_top.specs.Answers.{answer_after, first_passed, limit_asked, texts_held};
-ghost use Rattle.ss_top.specs.CommandLine.{CanBeAsked};
+ghost use Rattle.command_line.specs.CommandLine.{CanBeAsked};
 ghost use Rattle.ss_top.specs.Inputs.{inputs_of};
 ghost use Rattle.ss_top.specs.Printings.{Answers, HasNames};
 ghost use Rattle.ss_top.specs.Readings.{Asks, AsksInOrder, FailsAt, IfCalledFor, IfTold, IsLimitOf};
@@ -19,7 +19,8 @@ mod script;
 
 use crate::inputs::read_inputs;
 use crate::no_text::NoText;
-use crate::{Command, LimitHit, TextFault, Which};
+use crate::{LimitHit, TextFault, Which};
+use command_line::Command;
 use execution_definitions::Refusal;
 use script_lang::Script;
 use ss_base::Shelf;
@@ -108,9 +109,12 @@ where
             }
         },
         Command::Script { .. } => Ok(script::script_text(rt, alloc, &texts[0])?),
-        Command::Gen { docs, words, seed } => Ok(whole(generated::summary_text(
-            rt, alloc, *docs, *words, *seed,
-        )?)),
+        Command::Gen {
+            docs,
+            words,
+            seed,
+            ..
+        } => Ok(whole(generated::summary_text(rt, alloc, *docs, *words, *seed)?)),
     }
 }
 

@@ -10,7 +10,8 @@ ghost use Rattle.ss_top.specs.Readings.{AsksInOrder, Reads, FailsAt, IfCalledFor
 
 use crate::no_text::NoText;
 use crate::reading::read_input;
-use crate::{Command, LimitHit, TextFault, Which};
+use crate::{LimitHit, TextFault, Which};
+use command_line::Command;
 use ss_base::limits::ALL_DOCUMENT_BYTES;
 use ss_base::{Shelf, Texts};
 use std::alloc::Global;
@@ -32,15 +33,20 @@ fn input_at(command: &Command, place: usize) -> Option<(Which, &str)>
         ≡ slice_get (inputs_of command.now) place }
 {
     match command {
-        Command::Index { stop: None, names } => document_at(names, place),
+        Command::Index {
+            stop: None,
+            names,
+            ..
+        } => document_at(names, place),
         Command::Index {
             stop: Some(stop),
             names,
+            ..
         } => match place.checked_sub(1) {
             Some(before) => document_at(names, before),
             None => Some((Which::Stop, stop.as_str())),
         },
-        Command::Script { name } if place == 0 => Some((Which::Script, name.as_str())),
+        Command::Script { name, .. } if place == 0 => Some((Which::Script, name.as_str())),
         _ => None,
     }
 }

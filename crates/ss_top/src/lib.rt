@@ -1,7 +1,6 @@
 //! The top call: all that the program does.
 #![tactic(auto)]
 
-mod command;
 mod commands;
 mod generate;
 mod inputs;
@@ -12,7 +11,6 @@ mod status;
 mod tell;
 mod top;
 
-pub use command::{Command, WordsFault, command_of};
 pub use generate::{GenFault, gen_documents};
 pub use status::{LimitHit, Status, TextFault, Which};
 pub use tell::{tell_memory, tell_usage};

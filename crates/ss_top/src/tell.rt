@@ -4,17 +4,17 @@ ghost use Rattle.std.specs.List.{flat_map};
 ghost use Rattle.std.specs.Option.{option_copied};
 ghost use Rattle.ss_base.specs.Faults.{HasCause};
 ghost use Rattle.ss_base.specs.Sinks.{GainsAll};
-ghost use Rattle.ss_top.specs.Inputs.{documents_from, inputs_of, name_of};
+ghost use Rattle.ss_top.specs.Inputs.{documents_from, index_inputs, inputs_of, name_of};
 ghost use Rattle.ss_top.specs.Runs.{Tells};
 ghost use Rattle.ss_top.specs.Texts.{status_text, limit_text, usage_text};
 ghost use Rattle.ss_top.specs.Texts.{memory_text, read_fault_text, document_limit_text};
 ghost use Rattle.ss_top.specs.Texts.{line_text, kind_text, fault_text, object_name, object_text};
 ghost use Rattle.ss_top.specs.Texts.{two_sets_text, private_text, refusal_text};
 ghost use Rattle.ss_top.specs.Printings.{script_names};
-ghost use Rattle.ss_top.specs.declared.command.Command.TheVariants as command;
 
 use crate::status::Ended;
-use crate::{Command, LimitHit, Status, TextFault, Which};
+use crate::{LimitHit, Status, TextFault, Which};
+use command_line::Command;
 use execution_definitions::Refusal;
 use itoa::Buffer;
 use script_lang::{Script, ScriptKind};
@@ -80,7 +80,7 @@ fn name_at(names: &Texts, number: u32) -> Option<&str>
 // The name of an input of `index`, as it was given.
 fn index_name<'a>(stop: &'a Option<Text>, names: &'a Texts, which: Which) -> Option<&'a str>
     ensures { option_copied result
-        ≡ name_of (inputs_of (command.Index stop.now names.now)) which }
+        ≡ name_of (index_inputs stop.now names.now) which }
 {
     match which {
         Which::Stop => Some(stop.as_ref()?.as_str()),
@@ -95,8 +95,8 @@ fn given_name(command: &Command, which: Which) -> Option<&str>
     ensures { option_copied result ≡ name_of (inputs_of command.now) which }
 {
     match command {
-        Command::Index { stop, names } => index_name(stop, names, which),
-        Command::Script { name } => match which {
+        Command::Index { stop, names, .. } => index_name(stop, names, which),
+        Command::Script { name, .. } => match which {
             Which::Script => Some(name.as_str()),
             Which::Stop => None,
             Which::Name(_) => None,

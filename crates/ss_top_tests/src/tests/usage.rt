@@ -1,6 +1,6 @@
 // Words that are no command, and the two texts of the program itself.
 use crate::tests::{shelf_of, sink, words_of};
-use ss_top::{GenFault, LimitHit, Status, WordsFault, run, tell_memory, tell_usage};
+use ss_top::{GenFault, LimitHit, Status, run, tell_memory, tell_usage};
 use std::test::Fail;
 
 const USAGE: &str =
@@ -13,33 +13,16 @@ const USAGE: &str =
 #[test]
 fn what_is_no_command_is_usage(rt: HostRuntime) -> Result<(), Fail> {
     let alloc = rt.alloc();
-    let lines: [&[&str]; 26] = [
+    // The tables of `command_line_tests` have all of them.
+    let lines: [&[&str]; 8] = [
         &[],
         &["index"],
-        &["index", ""],
-        &["index", "-x"],
-        &["index", "a", "-x"],
-        &["index", "a", "--stop", "s"],
-        &["index", "--stop"],
-        &["index", "--stop", "s"],
-        &["index", "--stop", "-s", "a"],
-        &["index", "--stop", "", "a"],
-        &["script"],
-        &["script", ""],
-        &["script", "-s"],
-        &["script", "s", "s"],
-        &["Script", "s"],
-        &["gen"],
-        &["gen", "1", "1"],
-        &["gen", "1", "1", "1", "1"],
-        &["gen", "0", "1", "1"],
-        &["gen", "4294967296", "1", "1"],
-        &["gen", "1", "4294967296", "1"],
-        &["gen", "1", "1", "2147483648"],
-        &["gen", "1", "1", "00000000001"],
-        &["gen", "1", "+1", "1"],
-        &["gen", "1", "", "1"],
-        &["gen", "1", "-1", "1"],
+        &["index", "--ring", "0", "-"],
+        &["index", "--ring", "1", "--ring", "1", "-"],
+        &["script", "a", "b"],
+        &["script", "--trace", "s"],
+        &["replay", "--delegates", "0", "a", "b"],
+        &["gen", "--stop", "s", "1", "1", "1"],
     ];
     for line in lines {
         let words = words_of(alloc, line)?;
@@ -72,14 +55,6 @@ fn an_error_says_what_is_wrong(rt: HostRuntime) -> Result<(), Fail> {
     let alloc = rt.alloc();
     let limit = GenFault::Limit(LimitHit::Names(65_537));
     for (told, text) in [
-        (
-            format!(in alloc; "{}", WordsFault::Usage)?,
-            "the words are no command",
-        ),
-        (
-            format!(in alloc; "{}", WordsFault::OutOfMemory)?,
-            "out of memory",
-        ),
         (format!(in alloc; "{limit}")?, "the documents pass a limit"),
         (
             format!(in alloc; "{}", GenFault::OutOfMemory)?,
