@@ -15,6 +15,7 @@ ghost use Rattle.ss_top.specs.Texts.{names_in};
 mod generated;
 mod index;
 mod indexing;
+mod runtime;
 mod script;
 
 use crate::inputs::read_inputs;
@@ -98,23 +99,30 @@ where
         CanHave (Some command.now) fault }
 {
     match command {
-        Command::Index { stop, .. } => match stop {
+        Command::Index {
+            delegates,
+            stop,
+            ..
+        } => match stop {
             None => {
                 let stop = Vec::new(alloc);
-                Ok(whole(index::index_text(rt, alloc, stop, texts)?))
+                Ok(whole(index::index_text(rt, alloc, *delegates, stop, texts)?))
             }
             Some(_) => {
                 let stop = texts.remove(0);
-                Ok(whole(index::index_text(rt, alloc, stop, texts)?))
+                Ok(whole(index::index_text(rt, alloc, *delegates, stop, texts)?))
             }
         },
-        Command::Script { .. } => Ok(script::script_text(rt, alloc, &texts[0])?),
+        Command::Script { delegates, .. } => {
+            Ok(script::script_text(rt, alloc, *delegates, &texts[0])?)
+        }
         Command::Gen {
+            delegates,
             docs,
             words,
             seed,
             ..
-        } => Ok(whole(generated::summary_text(rt, alloc, *docs, *words, *seed)?)),
+        } => Ok(whole(generated::summary_text(rt, alloc, *delegates, *docs, *words, *seed)?)),
     }
 }
 

@@ -16,12 +16,14 @@ use std::thread::Threads;
 pub(crate) fn summary_text<R>(
     rt: &R,
     alloc: Global,
+    delegates: u32,
     docs: u32,
     words: u32,
     seed: u32,
 ) -> Result<Vec<u8>, GenFault>
 where
     R: Threads + Wait + Copy + Send + Sync + 'static,
+    requires delegates { delegates ≤ 64 }
     requires docs { 1 ≤ docs }
     requires seed { seed < 2 ^ 31 }
     ensures within { IfOk result (λ _. generated_limit docs words seed ≡ None) }
@@ -31,6 +33,6 @@ where
         generated_limit docs words seed ≡ Some hit }
 {
     let documents = gen_documents(alloc, docs, words, seed)?;
-    let index = index_documents(rt, alloc, documents, StopSet::empty(alloc))?;
+    let index = index_documents(rt, alloc, delegates, documents, StopSet::empty(alloc))?;
     Ok(print_summary(alloc, &index)?)
 }

@@ -16,11 +16,13 @@ use std::thread::Threads;
 pub(crate) fn index_text<R>(
     rt: &R,
     alloc: Global,
+    delegates: u32,
     stop: Vec<u8>,
     documents: Vec<Vec<u8>>,
 ) -> Result<Vec<u8>, OutOfMemory>
 where
     R: Threads + Wait + Copy + Send + Sync + 'static,
+    requires delegates { delegates ≤ 64 }
     requires stop { length stop.items ≤ limits.STOP_LIST_BYTES }
     requires some { 1 ≤ length documents.items }
     requires few { length documents.items ≤ limits.NAMES }
@@ -30,6 +32,6 @@ where
 {
     let stopped = StopSet::of(alloc, &stop)?;
     drop(stop);
-    let index = index_documents(rt, alloc, documents, stopped)?;
+    let index = index_documents(rt, alloc, delegates, documents, stopped)?;
     print_index(alloc, &index)
 }

@@ -6,6 +6,8 @@ ghost use Rattle.index_definitions.specs.Index.{index};
 ghost use Rattle.ss_base.specs.declared.limits.TheConstants as limits;
 ghost use Rattle.ss_top.specs.Limits.{first_limit};
 
+use crate::commands::runtime::{on_runtime, run_on};
+use batch_rt::Batch;
 use delegation::{Delegation, Plain};
 use doc_words::StopSet;
 use indexer::{Index, build};
@@ -18,19 +20,23 @@ use std::thread::Threads;
 pub(crate) fn index_documents<R>(
     rt: &R,
     alloc: Global,
+    delegates: u32,
     documents: Vec<Vec<u8>>,
     stop: StopSet,
 ) -> Result<Index, OutOfMemory>
 where
     R: Threads + Wait + Copy + Send + Sync + 'static,
+    requires delegates { delegates ≤ 64 }
     requires few { length documents.items ≤ limits.NAMES }
     requires within { first_limit (map (λ document. document.items) documents.items) ≡ None }
     ensures { IfOk result (λ made. (list : List ℕ) → HaveSameTerms stop (terms_in list) →
         made ≡ index (map (λ document. document.items) documents.items) list) }
 {
-    let mut plain = Plain::new(alloc)?;
-    let index = build(rt, alloc, &mut plain, documents, stop);
     // The documents and the shards are given up before the index is printed.
-    plain.finish(rt)?;
-    index
+    on_runtime!(
+        rt,
+        alloc,
+        delegates,
+        |runtime| build(rt, alloc, &mut runtime, documents, stop)
+    )
 }

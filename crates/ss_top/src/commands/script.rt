@@ -9,7 +9,9 @@ ghost use Rattle.ss_top.specs.Answers as answers;
 ghost use Rattle.ss_top.specs.Printings.{printed_answer};
 ghost use Rattle.ss_top.specs.Texts.{names_listed};
 
+use crate::commands::runtime::{on_runtime, run_on};
 use crate::commands::{Broken, Printed};
+use batch_rt::Batch;
 use delegation::{Delegation, Plain};
 use script_lang::{ParseFault, Script, Shown, parse, run_script};
 use ss_base::OutOfMemory;
@@ -35,25 +37,31 @@ fn printed(shown: Shown, script: Script) -> Printed
 }
 
 // Runs a script.
-fn show<R>(rt: &R, alloc: Global, script: Script) -> Result<Printed, OutOfMemory>
+fn show<R>(rt: &R, alloc: Global, delegates: u32, script: &Script) -> Result<Shown, OutOfMemory>
 where
     R: Threads + Wait + Copy + Send + Sync + 'static,
-    ensures answer { IfOk result (λ printed. printed_answer printed
-        ≡ answers.printed (shown_of script).text (shown_of script).stopped) }
-    ensures script { IfOk result (λ printed.
-        IfSome printed.broken (λ broken. broken.script ≡ script)) }
+    requires { delegates ≤ 64 }
+    ensures { IfOk result (λ shown. shown ≡ shown_of script.now) }
 {
-    let mut plain = Plain::new(alloc)?;
-    let shown = run_script(rt, alloc, &mut plain, &script);
-    plain.finish(rt)?;
-    Ok(printed(shown?, script))
+    on_runtime!(
+        rt,
+        alloc,
+        delegates,
+        |runtime| run_script(rt, alloc, &mut runtime, script)
+    )
 }
 
 /// What a script shows.
-pub(crate) fn script_text<R>(rt: &R, alloc: Global, script: &[u8]) -> Result<Printed, ParseFault>
+pub(crate) fn script_text<R>(
+    rt: &R,
+    alloc: Global,
+    delegates: u32,
+    script: &[u8],
+) -> Result<Printed, ParseFault>
 where
     R: Threads + Wait + Copy + Send + Sync + 'static,
-    requires { length script.now ≤ limits.SCRIPT_BYTES }
+    requires delegates { delegates ≤ 64 }
+    requires bytes { length script.now ≤ limits.SCRIPT_BYTES }
     ensures answer { IfOk result (λ printed.
         shown_answer (script_answer script.now) ≡ printed_answer printed) }
     ensures names { IfOk result (λ printed. IfSome printed.broken
@@ -62,5 +70,6 @@ where
         script_answer script.now ≡ Err fault }
 {
     let script = parse(alloc, script)?;
-    Ok(show(rt, alloc, script)?)
+    let shown = show(rt, alloc, delegates, &script)?;
+    Ok(printed(shown, script))
 }
