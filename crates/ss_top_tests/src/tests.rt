@@ -2,6 +2,7 @@
 // what the texts look like, and which calls of a shelf or a sink in memory fail.
 ghost use Rattle.std.specs.Prelude.{◌<◌};
 
+mod delegates;
 mod faults;
 mod generated;
 mod index;
