@@ -223,14 +223,9 @@ fn a_bad_line_is_an_error_that_says_so(rt: HostRuntime) -> Result<(), Fail> {
     let alloc = rt.alloc();
     let words = words_of(alloc, &["script", "s"])?;
     let mut shelf = script_shelf(alloc, b"total\njump\n".to_vec(alloc)?)?;
-    let status = run(
-        &rt,
-        alloc,
-        &words,
-        &mut shelf,
-        &mut sink(alloc)?,
-        &mut sink(alloc)?,
-    );
+    let mut out = sink(alloc)?;
+    let mut err = sink(alloc)?;
+    let status = run(&rt, alloc, &words, &mut shelf, &mut out, &mut err);
     let told = match status {
         Status::Text(fault) => format!(in alloc; "{fault}")?,
         _ => String::new(alloc),
