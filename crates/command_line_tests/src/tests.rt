@@ -186,12 +186,12 @@ const COMMANDS: [(&[&str], &str); 48] = [
 #[test]
 fn options_and_other_words_stand_in_any_order(rt: HostRuntime) -> Result<(), Fail> {
     let alloc = rt.alloc();
-    for (line, wanted) in COMMANDS {
-        let words = words_of(alloc, line)?;
+    for (line, wanted) in &COMMANDS {
+        let words = words_of(alloc, *line)?;
         match command_of(alloc, &words) {
             Ok(command) => {
                 let text = told(alloc, &command)?;
-                assert_eq!(rt; text.as_str(), wanted);
+                assert_eq!(rt; text.as_str().as_bytes(), wanted.as_bytes(), "at {wanted}");
             }
             Err(fault) => assert!(rt; false, "{wanted}: {fault}"),
         }
