@@ -24,6 +24,9 @@ pub const SCHEDULE_BYTES: usize = SCRIPT_BYTES;
 /// The most delegates of a runtime.
 pub const DELEGATES: u32 = 64;
 
+/// The most messages that wait in the ring of one lane.
+pub const RING: u32 = 4_096;
+
 /// The most objects of a runtime.
 pub const OBJECTS: usize = 1_048_576;
 
