@@ -5,11 +5,11 @@ use Rattle.std.proofs.lemmas.Bool.Decides.{nat_tests}
 use Rattle.std.proofs.Math.Seq.{take-append_seam, drop-cons}
 use Rattle.std.proofs.lemmas.List.{take_more, take_all, length-take-le, take-append-drop, map-append}
 use Rattle.std.proofs.lemmas.List.Elements.{filter-append}
-use Rattle.std.proofs.lemmas.Option.{slice_get_within, slice_get_past, get_or_from_slice_get}
+use Rattle.std.proofs.lemmas.Option.{slice_get_within, slice_get_past}
 use Rattle.std.proofs.lemmas.Grind.{flat_map-append}
 use Rattle.ss_base.specs.declared.ids.Run.{Run}
 use Rattle.execution_definitions.specs.Runs.{is_in_lane, is_of_set}
-use Rattle.execution_definitions.proofs.lists.ListLemmas.{past_none, slice_get-append_seam}
+use Rattle.execution_definitions.proofs.lists.ListLemmas.{past_none, slice_get-append_seam, take-next}
 use Rattle.history.specs.Logs.{calls_in, calls_of_set, wanted_in, DiffersAt}
 
 module _ {A : Type 0} where
@@ -20,13 +20,6 @@ module _ {A : Type 0} where
   filter-out : (test : A → Bool) (x : A) (rest : List A) → test x ≡ false →
       filter test (x ∷ rest) ≡ filter test rest
   filter-out test x rest is = rw is refl
-
-  -- one element more
-  pub take-next : (xs : List A) (k : ℕ) (x : A) → slice_get xs k ≡ Some x →
-      take (k + 1) xs ≡ take k xs ++ x ∷ []
-  take-next xs k x is =
-      take_more xs k x (slice_get_within xs k x is)
-      ∙ ap (λ y. take k xs ++ y ∷ []) (get_or_from_slice_get xs k x x is)
 
 -- ---- the calls of a set
 

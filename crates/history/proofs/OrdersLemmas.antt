@@ -13,7 +13,7 @@ use Rattle.history.specs.Picks.{lane_picked, next_place, with_pick, picked}
 use Rattle.history.specs.Merging.{places, IsMerge, IsNotMergeAt}
 use Rattle.history.specs.kept.Turns.{turn_of, IsOnWay}
 use Rattle.history.specs.kept.Judging.{IsNextOf, HasAll}
-use Rattle.history.proofs.LogsLemmas.{take-next}
+use Rattle.execution_definitions.proofs.lists.ListLemmas.{take-next}
 use Rattle.history.proofs.JudgedLemmas.{begun_all, no_merge_short, no_merge_at}
 use Rattle.history.proofs.PicksLemmas.{next_is, picked-count, picked-push, picked-take}
 

@@ -7,7 +7,7 @@ use Rattle.execution_definitions.specs.Meanings.{Meaning, shape_of, shapes_of}
 use Rattle.partition_check.specs.Marked.{Marked}
 use Rattle.partition_check.specs.Represents.{Represents}
 use Rattle.schedule_core.proofs.PlaceLemmas.{IsNextAt}
-use Rattle.schedule_core.proofs.ReachedLemmas.{take-next}
+use Rattle.execution_definitions.proofs.lists.ListLemmas.{take-next}
 
 take_within : {A : Type 0} (xs : List A) (n : ℕ) → length (take n xs) ≤ length xs
 take_within xs zero = omega arith

@@ -1,9 +1,10 @@
 -- Elements of lists, and of two lists one behind the other.
-use Rattle.std.proofs.Common.{◌≡◌, ℕ, ◌+◌, ◌<◌, ◌≤◌, Some, None, List, [], ◌∷◌, ◌++◌, map, length, zero, suc, refl, sym, ◌∙◌, ⊎_elim, arith}
+use Rattle.std.proofs.Common.{◌≡◌, ℕ, ◌+◌, ◌<◌, ◌≤◌, Some, None, List, [], ◌∷◌, ◌++◌, map, length, take, zero, suc, refl, sym, ap, ◌∙◌, ⊎_elim, arith}
 use Rattle.std.specs.Prelude.{slice_get, slice_set}
 use Rattle.std.specs.List.{range_with_len}
 use Rattle.std.proofs.Math.Seq.{set-append_seam}
-use Rattle.std.proofs.lemmas.Option.{slice_get_cases}
+use Rattle.std.proofs.lemmas.List.{take_more}
+use Rattle.std.proofs.lemmas.Option.{slice_get_cases, slice_get_within, get_or_from_slice_get}
 
 -- a number at which a list has no element is past its end
 pub past_none : {X : Type 0} (xs : List X) (i : ℕ) → slice_get xs i ≡ None → length xs ≤ i
@@ -34,6 +35,13 @@ pub seam_set : {A : Type 0} (xs ys : List A) (y new : A) → slice_get ys 0 ≡ 
     slice_set (xs ++ ys) (length xs) new ≡ xs ++ slice_set ys 0 new
 seam_set xs [] y new some = absurd cc
 seam_set xs (first ∷ rest) y new some = set-append_seam xs first rest new
+
+-- a front and the element behind it
+pub take-next : {A : Type 0} (xs : List A) (k : ℕ) (x : A) → slice_get xs k ≡ Some x →
+    take (k + 1) xs ≡ take k xs ++ x ∷ []
+take-next xs k x is =
+    take_more xs k x (slice_get_within xs k x is)
+    ∙ ap (λ y. take k xs ++ y ∷ []) (get_or_from_slice_get xs k x x is)
 
 -- functions that agree from a number on, over a range from there
 pub map_range-pointwise : {A : Type 0} (f g : ℕ → A) (start count : ℕ) →

@@ -14,7 +14,7 @@ use Rattle.execution_definitions.specs.Shapes.{Shape}
 use Rattle.execution_definitions.specs.Refusals.{breaks}
 use Rattle.execution_definitions.specs.Soundness.{first_break, first_refusal}
 use Rattle.execution_definitions.specs.Meanings.{Meaning, shape_of, shapes_of}
-use Rattle.execution_definitions.proofs.lists.ListLemmas.{slice_get-front, slice_get-append_seam}
+use Rattle.execution_definitions.proofs.lists.ListLemmas.{slice_get-front, slice_get-append_seam, take-next}
 use Rattle.execution_definitions.proofs.shapes.SoundnessLemmas.{first_break-at, first_refusal-at}
 use Rattle.partition_check.specs.Marked.{Marked}
 use Rattle.partition_check.specs.Represents.{Represents, RepresentsWith}
@@ -22,7 +22,6 @@ use Rattle.history.specs.declared.merges.step.Step.{Step}
 use Rattle.history.specs.Merging.{IsBrokenAt}
 use Rattle.history.specs.kept.Turns.{IsStepAfter, IsTable}
 use Rattle.history.specs.kept.Judging.{StepsAfter}
-use Rattle.history.proofs.LogsLemmas.{take-next}
 use Rattle.history.proofs.PlaceLemmas.{split_at}
 
 -- the shape of the call at a place
