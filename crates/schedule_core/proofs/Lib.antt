@@ -1,7 +1,7 @@
 pub mod CallLemmas
 pub mod EnabledLemmas
 pub mod EventLemmas
-pub mod FollowLemmas
+pub mod StandsAfterLemmas
 pub mod ReachedLemmas
 pub mod KeptLemmas
 pub mod PlaceLemmas

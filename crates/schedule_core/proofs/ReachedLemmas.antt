@@ -4,9 +4,9 @@ use Rattle.std.specs.Prelude.{fold, slice_get, is_some, if◌then◌else◌, ⊤
 use Rattle.std.specs.List.{list_all, range_with_len}
 use Rattle.std.specs.Option.{option_map}
 use Rattle.std.proofs.lemmas.List.Sums.{fold-append}
-use Rattle.std.proofs.lemmas.List.{map-append, length-map, take_more, take_all, length-take-le}
-use Rattle.execution_definitions.proofs.lists.ListLemmas.{past_none}
-use Rattle.std.proofs.lemmas.Option.{slice_get_within, same_Some, get_or_from_slice_get}
+use Rattle.std.proofs.lemmas.List.{map-append, length-map, take_all, length-take-le}
+use Rattle.execution_definitions.proofs.lists.ListLemmas.{past_none, take-next}
+use Rattle.std.proofs.lemmas.Option.{slice_get_within, same_Some}
 use Rattle.ss_base.specs.declared.ids.Event.{Event}
 use Rattle.ss_base.specs.declared.ids.Event.TheVariants as event
 use Rattle.execution_definitions.specs.declared.call.Call.{Call}
@@ -24,17 +24,11 @@ use Rattle.interleavings.proofs.programs.OperatedLemmas.{JoinsInAnyOrder}
 use Rattle.interleavings.proofs.machines.DrainLemmas.{EachEntry, EachLane, nothing_done}
 use Rattle.schedule_core.specs.Theorem.{IsAtEnd, GivesTheSame, SchedulesGiveTheSame, ReplaysGiveTheSame, DrainIsByEvents}
 use Rattle.schedule_core.proofs.EnabledLemmas.{no_fronts, may_take-empty}
-use Rattle.schedule_core.proofs.FollowLemmas.{IsHeldIn, Follows, follows-taken, follows-call, reply_same}
+use Rattle.schedule_core.proofs.StandsAfterLemmas.{IsHeldIn, StandsAfter, stands_after-taken, stands_after-call, reply_same}
 
 -- ---- places of a list
 
 module _ {A : Type 0} where
-  pub take-next : (xs : List A) (k : ℕ) (x : A) → slice_get xs k ≡ Some x →
-      take (k + 1) xs ≡ take k xs ++ x ∷ []
-  take-next xs k x is =
-      take_more xs k x (slice_get_within xs k x is)
-      ∙ ap (λ y. take k xs ++ y ∷ []) (get_or_from_slice_get xs k x x is)
-
   -- a list around one of its places
   record IsAround (xs : List A) (k : ℕ) (x : A) : Type 0 where
     rest : List A
@@ -107,15 +101,15 @@ module _ {C O R : Type 0} (m : Meaning C O R) where
     within : machine.next ≤ length calls
     sound : IsSound (shapes_of m (calls_taken m calls machine))
     replies : machine.replies ≡ sequential_replies m (calls_taken m calls machine)
-    follows : Follows m n (calls_taken m calls machine) machine.core
+    stands : StandsAfter m n (calls_taken m calls machine) machine.core
     stopped : IsStopped calls machine.next machine.stop
 
-  empty_follows : (n : ℕ) →
-      Follows m n [] (record {
+  empty_stands : (n : ℕ) →
+      StandsAfter m n [] (record {
         state = initial_state m;
         lanes = map (λ lane. []) (range_with_len 0 n);
       })
-  empty_follows n = record {
+  empty_stands n = record {
     count = length-map (range_with_len 0 n) (λ lane. []) ∙ length-range 0 n;
     held = each_empty (IsHeldIn n []) 0 (range_with_len 0 n);
     objects = omega arith;
@@ -132,7 +126,7 @@ module _ {C O R : Type 0} (m : Meaning C O R) where
     within = omega arith;
     sound = refl;
     replies = refl;
-    follows = empty_follows n;
+    stands = empty_stands n;
     stopped = tt;
   }
 
@@ -149,7 +143,7 @@ module _ {C O R : Type 0} (m : Meaning C O R) where
         within = reached.within;
         sound = reached.sound;
         replies = reached.replies;
-        follows = reached.follows;
+        stands = reached.stands;
         stopped = record { call = call; next = at; why = why };
       }
       reached-judged call at may None accepts =
@@ -166,15 +160,15 @@ module _ {C O R : Type 0} (m : Meaning C O R) where
           ≡ sequential_replies m (before ++ call ∷ []) =
           ap (λ l. l ++ reply_of m machine.core.state machine.next call ∷ []) reached.replies
           ∙ ap (λ r. sequential_replies m before ++ r ∷ [])
-          (reply_same m n before machine.core reached.follows machine.next call accepts may
+          (reply_same m n before machine.core reached.stands machine.next call accepts may
           ∙ ap (λ k. reply_of m (sequential_state m before) k call) count)
           ∙ sym (sequential_replies-push m before call) in
           record {
             within = omega arith;
             sound = subst (λ l. IsSound (shapes_of m l)) more sound;
             replies = replies ∙ ap (sequential_replies m) more;
-            follows = subst (λ l. Follows m n l (call_event m before machine.core call)) more
-                (follows-call m any_order n some before machine.core reached.follows call accepts
+            stands = subst (λ l. StandsAfter m n l (call_event m before machine.core call)) more
+                (stands_after-call m any_order n some before machine.core reached.stands call accepts
                 may);
             stopped = tt;
           }
@@ -201,7 +195,7 @@ module _ {C O R : Type 0} (m : Meaning C O R) where
         within = reached.within;
         sound = reached.sound;
         replies = reached.replies;
-        follows = follows-taken m any_order n before machine.core reached.follows lane (Some entry)
+        stands = stands_after-taken m any_order n before machine.core reached.stands lane (Some entry)
             is;
         stopped = reached.stopped;
       }
@@ -238,7 +232,7 @@ module _ {C O R : Type 0} (m : Meaning C O R) where
       end_at front stop = record {
         state = sym (nothing_done m machine.core.state machine.core.lanes
             (nothing_waits machine.core.lanes empty))
-            ∙ reached.follows.drains ∙ ap (sequential_state m) front;
+            ∙ reached.stands.drains ∙ ap (sequential_state m) front;
         replies = reached.replies ∙ ap (sequential_replies m) front;
         stop = stop;
       }
@@ -287,7 +281,7 @@ module _ {C O R : Type 0} (m : Meaning C O R) where
       on_way = record {
         sound = reached.sound;
         replies = reached.replies;
-        drains = reached.follows.drains;
+        drains = reached.stands.drains;
       };
       at_end = λ finished. reached_ends machine reached finished;
     }
@@ -322,9 +316,9 @@ module _ {C O R : Type 0} (m : Meaning C O R) where
   rule_ends : (calls : List (Call C O)) (machine : MachineState C O R) (by_rule : List Event) →
       FollowsRule m calls machine by_rule →
       IsFinished m calls (after_schedule m calls machine by_rule)
-  rule_ends calls machine [] follows = stopped_by_rule calls machine follows
-  rule_ends calls machine (e ∷ rest) follows =
-      rule_ends calls (after_event m calls machine e) rest follows.1
+  rule_ends calls machine [] stands = stopped_by_rule calls machine stands
+  rule_ends calls machine (e ∷ rest) stands =
+      rule_ends calls (after_event m calls machine e) rest stands.1
 
   -- every replay gives the same
   pub replays_give_the_same : JoinsInAnyOrder m → ReplaysGiveTheSame m
@@ -335,7 +329,7 @@ module _ {C O R : Type 0} (m : Meaning C O R) where
       subst (IsAtEnd m calls) (sym replay.is)
       ((schedules_give_the_same any_order n some calls (schedule ++ replay.by_rule)).at_end
       (subst (IsFinished m calls) (sym parted)
-      (rule_ends calls (after_schedule m calls first schedule) replay.by_rule replay.follows)))
+      (rule_ends calls (after_schedule m calls first schedule) replay.by_rule replay.stands)))
 
   -- ---- by events of lanes
 

@@ -1,4 +1,4 @@
--- The core follows the calls that were taken: what waits drains to what they leave.
+-- The core stands after the calls that were taken: what waits drains to what they leave.
 --
 -- Each entry's object is held to a set of its lane until the entry takes effect. So entries of
 -- different lanes have different objects, and what a call touches waits in no lane but its own.
@@ -71,9 +71,9 @@ freed true true later is = refl
 freed true false later is = absurd cc
 freed false free later is = refl
 
-held_set-freed : (before : List Shape) (call : Shape) (o : ℕ) → o < object_count before →
+freed_by_call : (before : List Shape) (call : Shape) (o : ℕ) → o < object_count before →
     IsWithin call → frees o call ≡ true → held_set (before ++ call ∷ []) o ≡ None
-held_set-freed before call o inside within frees_it =
+freed_by_call before call o inside within frees_it =
     held_set-push before call o within inside
     ∙ freed (isolating before) (frees o call)
     (later_set (serializer_in before o) o (held_set before o) call) frees_it
@@ -179,7 +179,7 @@ module _ {C O : Type 0} where
 
 module _ {C O R : Type 0} (m : Meaning C O R) where
   -- what waits drains to what the calls leave, and each entry's object is held
-  pub record Follows (n : ℕ) (before : List (Call C O)) (core : Core C O R) : Type 0 where
+  pub record StandsAfter (n : ℕ) (before : List (Call C O)) (core : Core C O R) : Type 0 where
     pub count : length core.lanes ≡ n
     pub held : EachLane (IsHeldIn n (shapes_of m before)) 0 core.lanes
     pub objects : object_count (shapes_of m before) ≤ length core.state.values
@@ -187,24 +187,24 @@ module _ {C O R : Type 0} (m : Meaning C O R) where
 
   -- what is at the front of a lane may take effect
   module _ (any_order : JoinsInAnyOrder m) (n : ℕ) (before : List (Call C O))
-      (core : Core C O R) (follows : Follows n before core) where
-    pub follows-taken : (lane : ℕ) (front : Option (Entry C O)) → front_at core.lanes lane ≡ front →
-        Follows n before (taken m core lane front)
-    follows-taken lane None is = follows
-    follows-taken lane (Some entry) is =
+      (core : Core C O R) (stands : StandsAfter n before core) where
+    pub stands_after-taken : (lane : ℕ) (front : Option (Entry C O)) → front_at core.lanes lane ≡ front →
+        StandsAfter n before (taken m core lane front)
+    stands_after-taken lane None is = stands
+    stands_after-taken lane (Some entry) is =
         let its = each_lane-front (IsHeldIn n (shapes_of m before)) 0 lane entry core.lanes lane
-        (omega arith) follows.held is in
+        (omega arith) stands.held is in
         let same = operated-length m core.state entry.run.object.0 entry.op entry.read in
-        let objects = follows.objects in
+        let objects = stands.objects in
         record {
-          count = length-without_front lane core.lanes ∙ follows.count;
+          count = length-without_front lane core.lanes ∙ stands.count;
           held = each_lane-without_front (IsHeldIn n (shapes_of m before)) 0 lane core.lanes
-              follows.held;
+              stands.held;
           objects = omega arith;
           drains = front_first m any_order core.state core.lanes lane entry is
               (elsewhere_before n (shapes_of m before) entry.run.object.0 its.set its.holds.held
-              0 lane core.lanes (its.lane_is ∙ omega arith) follows.held)
-              ∙ follows.drains;
+              0 lane core.lanes (its.lane_is ∙ omega arith) stands.held)
+              ∙ stands.drains;
         }
 
   -- a lane that a call waits for is idle when the call is taken
@@ -241,7 +241,7 @@ module _ {C O R : Type 0} (m : Meaning C O R) where
     waited_is_idle Total lane plain waits may = absurd cc
 
   -- one call more
-  module _ (n : ℕ) (before : List (Call C O)) (core : Core C O R) (follows : Follows n before core)
+  module _ (n : ℕ) (before : List (Call C O)) (core : Core C O R) (stands : StandsAfter n before core)
       (call : Call C O)
       (accepts : breaks (shapes_of m before) (shape_of m.own call) ≡ None)
       (may : may_take m before core call ≡ true) where
@@ -253,7 +253,7 @@ module _ {C O R : Type 0} (m : Meaning C O R) where
         IsHeldIn n (shapes_of m before) lane entry → IsHeldIn n after lane entry
     still_held lane entry busy its = ⊎_elim
         (λ waits. absurd (idle_and_busy (is_idle (slice_get core.lanes lane))
-        (waited_is_idle n before core follows.count its.holds.is_open call lane waits.0
+        (waited_is_idle n before core stands.count its.holds.is_open call lane waits.0
         (ap (λ l. waits_for n l (shapes_of m before) (Some (shape_of m.own call)))
         (sym its.lane_is) ∙ waits.1) may)
         busy))
@@ -285,7 +285,7 @@ module _ {C O R : Type 0} (m : Meaning C O R) where
 
     held_after : EachLane (IsHeldIn n after) 0 core.lanes
     held_after = still_held_from 0 core.lanes
-        (λ k. let same : 0 + k ≡ k = omega arith in ap (slice_get core.lanes) same) follows.held
+        (λ k. let same : 0 + k ≡ k = omega arith in ap (slice_get core.lanes) same) stands.held
 
     -- a write or a get finds nothing that waits for the object
     freed_elsewhere : (o : ℕ) → o < object_count (shapes_of m before) →
@@ -293,27 +293,27 @@ module _ {C O R : Type 0} (m : Meaning C O R) where
         AreElsewhere o core.lanes
     freed_elsewhere o inside within frees_it =
         unheld_elsewhere n after o
-        (held_set-freed (shapes_of m before) (shape_of m.own call) o inside within frees_it)
+        (freed_by_call (shapes_of m before) (shape_of m.own call) o inside within frees_it)
         core.lanes held_after
 
   objects_inside : (n : ℕ) (before : List (Call C O)) (core : Core C O R) →
-      Follows n before core →
+      StandsAfter n before core →
       EachEntry {A = List (Entry C O)} (EachEntry (IsWithinCount (object_count (shapes_of m before))))
       core.lanes
-  objects_inside n before core follows =
+  objects_inside n before core stands =
       each_lane-flat (IsHeldIn n (shapes_of m before))
       (IsWithinCount (object_count (shapes_of m before)))
-      (λ lane entry its. its.holds.known) 0 core.lanes follows.held
+      (λ lane entry its. its.holds.known) 0 core.lanes stands.held
 
   -- what is read is what it comes to
-  read_same : (n : ℕ) (before : List (Call C O)) (core : Core C O R) → Follows n before core →
+  read_same : (n : ℕ) (before : List (Call C O)) (core : Core C O R) → StandsAfter n before core →
       (reading : Option ObjectId) →
       if_reading (number_given reading) (private_object (shapes_of m before)) ≡ None →
       value_read core.state.values reading ≡ value_read (drained m core).values reading
-  read_same n before core follows None free = refl
-  read_same n before core follows (Some read) free =
+  read_same n before core stands None free = refl
+  read_same n before core stands (Some read) free =
       sym (slice_get-lanes_done m core.state core.lanes read.0
-      (read_elsewhere n (shapes_of m before) read.0 free core.lanes follows.held))
+      (read_elsewhere n (shapes_of m before) read.0 free core.lanes stands.held))
 
   -- what an accepted call does to the state that is drained
   abbrev DrainsTo : List (Call C O) → Core C O R → Call C O → Type 0
@@ -321,7 +321,7 @@ module _ {C O R : Type 0} (m : Meaning C O R) where
       drained m (call_event m before core call) ≡ state_after m (drained m core) call
 
   module _ (any_order : JoinsInAnyOrder m) (n : ℕ) (some : 0 < n) (before : List (Call C O))
-      (core : Core C O R) (follows : Follows n before core) where
+      (core : Core C O R) (stands : StandsAfter n before core) where
     drains_delegate : (object : ObjectId) (op : O) (reading : Option ObjectId) →
         breaks (shapes_of m before) (shape_of {C = C} m.own (Delegate object op reading)) ≡ None →
         DrainsTo before core (Delegate object op reading)
@@ -330,7 +330,7 @@ module _ {C O R : Type 0} (m : Meaning C O R) where
         let set = set_of (shapes_of m before) object.0 (m.own op) in
         let held = holds_from (shapes_of m before) object.0 (m.own op) (number_given reading)
         accepts in
-        let count = follows.count in
+        let count = stands.count in
         let inside : lane_of_set set (length core.lanes) < length core.lanes =
         within_lanes set (length core.lanes) (omega arith) in
         let lane : lane_of_set set n ≡ 0 + lane_of_set set (length core.lanes) =
@@ -338,26 +338,26 @@ module _ {C O R : Type 0} (m : Meaning C O R) where
         entry_last m any_order core.state core.lanes (lane_of_set set (length core.lanes)) _ inside
         (elsewhere_behind n _ object.0 set held.held 0 (lane_of_set set (length core.lanes))
         core.lanes lane
-        (held_after n before core follows (Delegate object op reading) accepts refl))
+        (held_after n before core stands (Delegate object op reading) accepts refl))
         ∙ ap (operated m (drained m core) object.0 op)
-        (read_same n before core follows reading told.free)
+        (read_same n before core stands reading told.free)
 
     drains_call : (call : Call C O) →
         breaks (shapes_of m before) (shape_of m.own call) ≡ None →
         may_take m before core call ≡ true → DrainsTo before core call
     drains_call (Make value by) accepts may =
         lanes_done-with_object m core.state value (object_count (shapes_of m before)) core.lanes
-        follows.objects (objects_inside n before core follows)
+        stands.objects (objects_inside n before core stands)
     drains_call (MakeFixed value) accepts may =
         lanes_done-with_object m core.state value (object_count (shapes_of m before)) core.lanes
-        follows.objects (objects_inside n before core follows)
+        stands.objects (objects_inside n before core stands)
     drains_call Begin accepts may = refl
     drains_call (Delegate object op reading) accepts may =
         drains_delegate object op reading accepts
     drains_call (Write object op) accepts may =
         let told = accepted_write (shapes_of m before) object.0 accepts in
         passes_lanes m any_order core.state object.0 op None core.lanes
-        (freed_elsewhere n before core follows (Write object op) accepts may object.0 told.known
+        (freed_elsewhere n before core stands (Write object op) accepts may object.0 told.known
         (record { no_begin = refl; no_end = refl }) (itself object.0))
     drains_call (Get object) accepts may = refl
     drains_call End accepts may = refl
@@ -370,10 +370,10 @@ module _ {C O R : Type 0} (m : Meaning C O R) where
         EachLane (IsHeldIn n (shapes_of m before ++ shape_of m.own call ∷ [])) 0
         (call_event m before core call).lanes
     held_then (Make value by) accepts may =
-        held_after n before core follows (Make value by) accepts may
+        held_after n before core stands (Make value by) accepts may
     held_then (MakeFixed value) accepts may =
-        held_after n before core follows (MakeFixed value) accepts may
-    held_then Begin accepts may = held_after n before core follows Begin accepts may
+        held_after n before core stands (MakeFixed value) accepts may
+    held_then Begin accepts may = held_after n before core stands Begin accepts may
     held_then (Delegate object op reading) accepts may =
         let set = set_of (shapes_of m before) object.0 (m.own op) in
         let held = holds_from (shapes_of m before) object.0 (m.own op) (number_given reading)
@@ -382,54 +382,54 @@ module _ {C O R : Type 0} (m : Meaning C O R) where
         (IsHeldIn n (shapes_of m before ++ shape_of {C = C} m.own (Delegate object op reading) ∷ []))
         0 (lane_of_set set (length core.lanes)) _ core.lanes
         (lane_of_set set (length core.lanes)) (omega arith)
-        (held_after n before core follows (Delegate object op reading) accepts may)
+        (held_after n before core stands (Delegate object op reading) accepts may)
         (record {
           set = set;
           holds = forget_reading _ object.0 (number_given reading) set held;
-          lane_is = ap (lane_of_set set) (sym follows.count);
+          lane_is = ap (lane_of_set set) (sym stands.count);
         })
     held_then (Write object op) accepts may =
-        held_after n before core follows (Write object op) accepts may
+        held_after n before core stands (Write object op) accepts may
     held_then (Get object) accepts may =
-        held_after n before core follows (Get object) accepts may
-    held_then End accepts may = held_after n before core follows End accepts may
-    held_then Total accepts may = held_after n before core follows Total accepts may
+        held_after n before core stands (Get object) accepts may
+    held_then End accepts may = held_after n before core stands End accepts may
+    held_then Total accepts may = held_after n before core stands Total accepts may
 
     count_then : (call : Call C O) → length (call_event m before core call).lanes ≡ n
-    count_then (Make value by) = follows.count
-    count_then (MakeFixed value) = follows.count
-    count_then Begin = follows.count
+    count_then (Make value by) = stands.count
+    count_then (MakeFixed value) = stands.count
+    count_then Begin = stands.count
     count_then (Delegate object op reading) =
-        length-with_entry _ _ core.lanes ∙ follows.count
-    count_then (Write object op) = follows.count
-    count_then (Get object) = follows.count
-    count_then End = follows.count
-    count_then Total = follows.count
+        length-with_entry _ _ core.lanes ∙ stands.count
+    count_then (Write object op) = stands.count
+    count_then (Get object) = stands.count
+    count_then End = stands.count
+    count_then Total = stands.count
 
     objects_then : (call : Call C O) →
         object_count (shapes_of m before ++ shape_of m.own call ∷ [])
         ≤ length (call_event m before core call).state.values
     objects_then (Make value by) =
-        objects_counted m before (Make value by) core.state follows.objects
+        objects_counted m before (Make value by) core.state stands.objects
     objects_then (MakeFixed value) =
-        objects_counted m before (MakeFixed value) core.state follows.objects
-    objects_then Begin = objects_counted m before Begin core.state follows.objects
+        objects_counted m before (MakeFixed value) core.state stands.objects
+    objects_then Begin = objects_counted m before Begin core.state stands.objects
     objects_then (Delegate object op reading) =
         let same = object_count-same (shapes_of m before)
         (shape.delegate object.0 (m.own op) (number_given reading)) refl in
-        let most = follows.objects in omega arith
+        let most = stands.objects in omega arith
     objects_then (Write object op) =
-        objects_counted m before (Write object op) core.state follows.objects
-    objects_then (Get object) = objects_counted m before (Get object) core.state follows.objects
-    objects_then End = objects_counted m before End core.state follows.objects
-    objects_then Total = objects_counted m before Total core.state follows.objects
+        objects_counted m before (Write object op) core.state stands.objects
+    objects_then (Get object) = objects_counted m before (Get object) core.state stands.objects
+    objects_then End = objects_counted m before End core.state stands.objects
+    objects_then Total = objects_counted m before Total core.state stands.objects
 
     -- an accepted call keeps this
-    pub follows-call : (call : Call C O) →
+    pub stands_after-call : (call : Call C O) →
         breaks (shapes_of m before) (shape_of m.own call) ≡ None →
         may_take m before core call ≡ true →
-        Follows n (before ++ call ∷ []) (call_event m before core call)
-    follows-call call accepts may =
+        StandsAfter n (before ++ call ∷ []) (call_event m before core call)
+    stands_after-call call accepts may =
         let more = sym (shapes_of-push m before call) in
         record {
           count = count_then call;
@@ -438,13 +438,13 @@ module _ {C O R : Type 0} (m : Meaning C O R) where
           objects = subst (λ calls. object_count calls
               ≤ length (call_event m before core call).state.values) more (objects_then call);
           drains = drains_call call accepts may
-              ∙ ap (λ state. state_after m state call) follows.drains
+              ∙ ap (λ state. state_after m state call) stands.drains
               ∙ sym (sequential_state-push m before call);
         }
 
   -- the replies are those of the state that is drained
   module _ (n : ℕ) (before : List (Call C O)) (core : Core C O R)
-      (follows : Follows n before core) (number : ℕ) where
+      (stands : StandsAfter n before core) (number : ℕ) where
     reply_drained : (call : Call C O) →
         breaks (shapes_of m before) (shape_of m.own call) ≡ None →
         may_take m before core call ≡ true →
@@ -458,14 +458,14 @@ module _ {C O R : Type 0} (m : Meaning C O R) where
     reply_drained (Write object op) accepts may = refl
     reply_drained (Get object) accepts may =
         ap (option_map reply.Value) (sym (slice_get-lanes_done m core.state core.lanes object.0
-        (freed_elsewhere n before core follows (Get object) accepts may object.0
+        (freed_elsewhere n before core stands (Get object) accepts may object.0
         (known (shapes_of m before) object.0 (first_of-none _ _ accepts).0)
         (record { no_begin = refl; no_end = refl }) (itself object.0))))
     reply_drained End accepts may = refl
     reply_drained Total accepts may =
         ap (λ (state : State C R). Some (reply.Total state.total))
         (sym (nothing_done m core.state core.lanes (closed_empty n (shapes_of m before)
-        (accepted_total (shapes_of m before) accepts) core.lanes follows.held)))
+        (accepted_total (shapes_of m before) accepts) core.lanes stands.held)))
 
     pub reply_same : (call : Call C O) →
         breaks (shapes_of m before) (shape_of m.own call) ≡ None →
@@ -473,4 +473,4 @@ module _ {C O R : Type 0} (m : Meaning C O R) where
         reply_of m core.state number call ≡ reply_of m (sequential_state m before) number call
     reply_same call accepts may =
         reply_drained call accepts may
-        ∙ ap (λ state. reply_of m state number call) follows.drains
+        ∙ ap (λ state. reply_of m state number call) stands.drains
