@@ -1,6 +1,6 @@
 // The program as a process: the top call on real files and streams, and the exit status.
 
-use crate::{ArgumentsFault, FileShelf, StdSink};
+use crate::{ArgumentsFault, FileShelf, MessageSink, StdSink};
 use ss_top::{run, tell_memory, tell_usage};
 use std::fs::Files;
 use std::io::{Read, Write};
@@ -25,8 +25,8 @@ pub fn run_process<R, I: Read + Drop, O: Write + Drop, E: Write + Drop>(
 where
     R: Files + AllocGlobal + Threads + Wait + Drop + Copy + Send + Sync + 'static,
 {
-    let mut err = StdSink::new(err);
-    match words {
+    let mut err = MessageSink::new(err);
+    let code = match words {
         Ok(words) => {
             let mut shelf = FileShelf::new(*rt, input);
             let status = run(
@@ -37,15 +37,18 @@ where
                 &mut StdSink::new(out),
                 &mut err,
             );
-            ExitCode::from(status.code())
+            status.code()
         }
         Err(ArgumentsFault::NotText) => {
             tell_usage(&mut err);
-            ExitCode::from(USAGE)
+            USAGE
         }
         Err(ArgumentsFault::OutOfMemory) => {
             tell_memory(&mut err);
-            ExitCode::from(OUT_OF_MEMORY)
+            OUT_OF_MEMORY
         }
-    }
+    };
+    // A stream that fails can't be told so, and no status depends on it.
+    let _ = err.send();
+    ExitCode::from(code)
 }

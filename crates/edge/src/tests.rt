@@ -1,6 +1,6 @@
 // What no clause says: what reaches a stream or comes from the system, which call is a fault, and
 // that the words, the streams and the status are handed on as they are.
-use crate::{ArgumentsFault, FileShelf, StdSink, run_process, words_of};
+use crate::{ArgumentsFault, FileShelf, MessageSink, StdSink, run_process, words_of};
 use ss_base::{Failed, ReadStop, Sink, read_all, write_all};
 use std::alloc::Global;
 use std::env::{Env, FillError};
@@ -12,14 +12,15 @@ use std::sync::Wait;
 use std::test::Fail;
 use std::thread::Threads;
 
-// A stream that takes so many bytes of a write at most and so many in all, and fails to flush where
-// that is asked.
+// A stream that takes so many bytes of a write at most and so many in all, fails to flush where that
+// is asked, and counts the writes.
 #[derive(Drop)]
 struct Stream {
     bytes: Vec<u8>,
     most: usize,
     room: usize,
     flush_fails: bool,
+    writes: u32,
 }
 
 // A stream with ample room that takes so many bytes of a write at most.
@@ -29,11 +30,13 @@ fn stream_taking(alloc: Global, most: usize) -> Stream {
         most,
         room: 8192,
         flush_fails: false,
+        writes: 0,
     }
 }
 
 impl Write for Stream {
     fn write(&mut self, bytes: &[u8]) -> io::Result<usize> {
+        self.writes = self.writes.saturating_add(1);
         let room = self.room.saturating_sub(self.bytes.len());
         let count = self.most.min(room).min(bytes.len());
         self.bytes.extend_from_slice(&bytes[..count])?;
@@ -105,6 +108,24 @@ fn a_write_that_takes_nothing_and_a_failed_flush_are_faults(rt: HostRuntime) {
         stream.flush_fails = flush_fails;
         assert_eq!(rt; StdSink::new(stream).write(b"ab"), Err(Failed), "at {most}");
     }
+}
+
+#[test]
+fn messages_go_out_whole_and_in_order(rt: HostRuntime) -> Result<(), Fail> {
+    let long = [b'x'; 1025];
+    let mut stream = stream_taking(rt.alloc(), 8192);
+    let mut sink = MessageSink::new(&mut stream);
+    for part in [&long[..1000], b"ab", &long[..24], &long[..1025], b"cd"] {
+        write_all(&mut sink, part)?;
+    }
+    sink.send()?;
+    sink.send()?;
+    assert_eq!(rt; stream.bytes.len(), 1000 + 2 + 24 + 1025 + 2);
+    assert_eq!(rt; &stream.bytes[998..1004], b"xxabxx".as_slice());
+    assert!(rt; stream.bytes.ends_with(b"xcd"));
+    // The first two together, the third, the one that is too long to wait, and the last.
+    assert_eq!(rt; stream.writes, 4);
+    Ok(())
 }
 
 #[test]
@@ -292,6 +313,22 @@ fn a_stream_that_fails_is_told_and_has_a_front_part(rt: HostRuntime) -> Result<(
         assert_eq!(rt; out.bytes.as_slice(), printed.as_bytes(), "at {room}");
         let told = b"ssidx: cannot write\n".as_slice();
         assert_eq!(rt; err.bytes.as_slice(), told, "at {room}");
+    }
+    Ok(())
+}
+
+#[test]
+fn what_is_told_goes_out_in_one_write(rt: HostRuntime) -> Result<(), Fail> {
+    for (line, code) in [
+        ("index /dev/null/absent", 3u8),
+        ("index", 2),
+        ("index -", 0),
+    ] {
+        let mut out = stream_taking(rt.alloc(), 8);
+        let mut err = stream_taking(rt.alloc(), 8192);
+        let ended = run_line(&rt, line, "a", &mut out, &mut err)?;
+        assert_eq!(rt; ended, ExitCode::from(code), "at {line}");
+        assert_eq!(rt; err.writes, u32::from(code > 0), "at {line}");
     }
     Ok(())
 }
