@@ -1,6 +1,7 @@
 // The two ends of a lane.
 ghost use Rattle.std.specs.Prelude.{◌≡◌, ◌+◌, ◌<◌, ◌≤◌, [], ◌∷◌, ◌++◌, length, IfOk, OnOk, IfErr, IfSome, IfNone, IsOk, IsSome};
 ghost use mathlib.Core.List.{IsPrefix};
+ghost use Rattle.ss_base.specs.declared.limits.TheConstants.{RING};
 ghost use Rattle.set_queue.specs.Ends.{sent, received, known, free_slots, capacity_of, AreOneLane, IsSameSender, IsSameReceiver};
 
 use crate::message::Message;
@@ -21,13 +22,13 @@ pub struct Receiver<C: LocalClass> {
     consumer: Consumer<Message<C>>,
 }
 
-/// A lane with room for `capacity` messages, 1 to 4,096.
+/// A lane with room for `capacity` messages, 1 to `ss_base::limits::RING`.
 pub fn lane<C: LocalClass>(
     alloc: Global,
     capacity: usize,
 ) -> Result<(Sender<C>, Receiver<C>), OutOfMemory>
     requires least { 1 ≤ capacity }
-    requires most { capacity ≤ 4096 }
+    requires most { capacity ≤ RING }
     ensures one { IfOk result (λ ends. AreOneLane ends.0 ends.1) }
     ensures sent { IfOk result (λ ends. sent ends.0 ≡ []) }
     ensures received { IfOk result (λ ends. (received ends.1 ≡ []) × (known ends.1 ≡ [])) }
