@@ -109,6 +109,22 @@ fn documents_are_gathered_into_the_shards_of_their_terms(rt: HostRuntime) -> Res
     Ok(())
 }
 
+// The terms of a copy of a split document, once the document itself is gone.
+fn listed_of_copy(alloc: Global, text: &[u8]) -> Result<String, OutOfMemory>
+    requires { length text.now ≤ 8388608 }
+{
+    let mut totals = Totals::unit(alloc);
+    let copy = split(alloc, text, &mut totals)?.copy(alloc)?;
+    listed(alloc, &copy)
+}
+
+#[test]
+fn a_copied_document_has_the_words_of_the_first(rt: HostRuntime) -> Result<(), Fail> {
+    let terms = listed_of_copy(rt.alloc(), b"The cat, a Cat")?;
+    assert_eq!(rt; terms.as_str(), "cat 2 4;a 3;");
+    Ok(())
+}
+
 #[test]
 fn a_copied_stop_list_stops_what_it_stopped(rt: HostRuntime) -> Result<(), Fail> {
     let alloc = rt.alloc();
