@@ -1,9 +1,13 @@
 // What no clause says of delegates: that threads are started, that they run at once, that they take a
-// message that comes while they sleep, and that they come home.
+// message that comes while they sleep, and that they come home, also where no thread could be started.
 
 use crate::messages::{carry, run};
 use crate::{Number, Step};
-use delegates::{Home, OpenGate, PairGate, Started, Store, make_bell, start, take_home, work};
+use delegates::{
+    DelegateJob, Home, OpenGate, PairGate, Started, Store, home_in, make_bell, start, take_home,
+    work,
+};
+use jobs::Returned;
 use set_queue::{Message, Sender, lane};
 use ss_base::{OutOfMemory, SetId};
 use std::alloc::Global;
@@ -113,5 +117,23 @@ fn two_sets_in_one_lane_do_not(rt: HostRuntime) -> Result<(), Fail> {
     let started = start(&rt, alloc, home, Arc::try_clone(&gate)?);
     assert_eq!(rt; runs_at_home(&rt, alloc, started), 2);
     assert!(rt; !gate.both_passed());
+    Ok(())
+}
+
+#[test]
+fn a_home_that_was_called_off_has_what_was_sent(rt: HostRuntime) -> Result<(), Fail> {
+    let alloc = rt.alloc();
+    let messages = vec![in alloc; carry(0, 0, 0, 1, Step::Add(1)), Message::Stop]?;
+    let (_sender, home) = lane_with(alloc, messages)?;
+    let (sleeper, _bell) = make_bell(alloc)?;
+    let job = DelegateJob {
+        home,
+        gate: Arc::new(alloc, OpenGate)?,
+        sleeper,
+    };
+    let mut home = home_in(Returned::CalledOff(job));
+    assert_eq!(rt; home.store.take_runs(alloc).len(), 0);
+    assert!(rt; matches!(home.receiver.try_next(), Some(Message::Carry { .. })));
+    assert!(rt; matches!(home.receiver.try_next(), Some(Message::Stop)));
     Ok(())
 }
