@@ -3,7 +3,7 @@ use crate::tests::{Case, check_cases};
 use ss_top::{GenFault, LimitHit, Status, gen_documents};
 use std::test::Fail;
 
-const CASES: [Case; 10] = [
+const CASES: [Case; 12] = [
     Case {
         words: &["gen", "1", "3", "0"],
         files: &[],
@@ -29,6 +29,29 @@ const CASES: [Case; 10] = [
     // There are 1,000 different words, and another program found all of them in these documents.
     Case {
         words: &["gen", "64", "1000", "1"],
+        files: &[],
+        status: Status::Done,
+        out: "documents 64\nwords 64000\nterms 1000\npositions 32032000\n",
+        err: "",
+    },
+    // So they are with no delegate and with as many as there may be; else there are 4.
+    Case {
+        words: &["gen", "--delegates", "0", "64", "1000", "1"],
+        files: &[],
+        status: Status::Done,
+        out: "documents 64\nwords 64000\nterms 1000\npositions 32032000\n",
+        err: "",
+    },
+    Case {
+        words: &[
+            "gen",
+            "64",
+            "1000",
+            "1",
+            "--delegates=64",
+            "--mode=batch",
+            "--ring=1",
+        ],
         files: &[],
         status: Status::Done,
         out: "documents 64\nwords 64000\nterms 1000\npositions 32032000\n",
