@@ -1,6 +1,5 @@
 -- A small program, computed: what must stand before what, and what a machine makes of it.
-use Rattle.std.proofs.Common.{◌≡◌, ℕ, ◌+◌, ◌*◌, true, false, Some, None, List, [], ◌∷◌, refl}
-use Rattle.ss_base.specs.declared.ids.Event.{Event}
+use Rattle.std.proofs.Common.{◌≡◌, ℕ, ◌+◌, true, false, Some, None, List, [], ◌∷◌, refl}
 use Rattle.ss_base.specs.declared.ids.Event.TheVariants as event
 use Rattle.ss_base.specs.Ids.{object_id, call_no}
 use Rattle.execution_definitions.specs.declared.serializer.By.TheVariants.{Own}

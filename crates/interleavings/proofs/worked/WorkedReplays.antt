@@ -1,5 +1,5 @@
 -- Two objects in two sets, computed: what two lanes make of them under schedules, and in other orders.
-use Rattle.std.proofs.Common.{◌≡◌, ℕ, ◌+◌, true, false, Some, None, List, [], ◌∷◌, refl}
+use Rattle.std.proofs.Common.{◌≡◌, ℕ, ◌+◌, true, false, None, List, [], ◌∷◌, refl}
 use Rattle.ss_base.specs.declared.ids.Event.{Event}
 use Rattle.ss_base.specs.declared.ids.Event.TheVariants as event
 use Rattle.ss_base.specs.Ids.{object_id}
