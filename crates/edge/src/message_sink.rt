@@ -1,5 +1,5 @@
 // A stream of messages as a sink, each message in one write.
-ghost use Rattle.std.specs.Prelude.{None};
+ghost use Rattle.std.specs.Prelude.{◌≡◌, None};
 ghost use Rattle.ss_base.specs.Faults.{HasCause};
 
 use crate::StdSink;
@@ -42,7 +42,9 @@ impl<W: Write + Drop> MessageSink<W> {
     }
 
     // Puts bytes behind what waits, where they fit.
-    fn wait(&mut self, bytes: &[u8]) -> bool {
+    fn wait(&mut self, bytes: &[u8]) -> bool
+        ensures stream { self.new.stream ≡ self.old.stream }
+    {
         let end = self.count.saturating_add(bytes.len());
         match self.waiting.get_mut(self.count..end) {
             Some(room) => {
