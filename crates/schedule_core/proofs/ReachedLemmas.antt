@@ -316,9 +316,9 @@ module _ {C O R : Type 0} (m : Meaning C O R) where
   rule_ends : (calls : List (Call C O)) (machine : MachineState C O R) (by_rule : List Event) →
       FollowsRule m calls machine by_rule →
       IsFinished m calls (after_schedule m calls machine by_rule)
-  rule_ends calls machine [] stands = stopped_by_rule calls machine stands
-  rule_ends calls machine (e ∷ rest) stands =
-      rule_ends calls (after_event m calls machine e) rest stands.1
+  rule_ends calls machine [] follows = stopped_by_rule calls machine follows
+  rule_ends calls machine (e ∷ rest) follows =
+      rule_ends calls (after_event m calls machine e) rest follows.1
 
   -- every replay gives the same
   pub replays_give_the_same : JoinsInAnyOrder m → ReplaysGiveTheSame m
@@ -329,7 +329,7 @@ module _ {C O R : Type 0} (m : Meaning C O R) where
       subst (IsAtEnd m calls) (sym replay.is)
       ((schedules_give_the_same any_order n some calls (schedule ++ replay.by_rule)).at_end
       (subst (IsFinished m calls) (sym parted)
-      (rule_ends calls (after_schedule m calls first schedule) replay.by_rule replay.stands)))
+      (rule_ends calls (after_schedule m calls first schedule) replay.by_rule replay.follows)))
 
   -- ---- by events of lanes
 
