@@ -1,0 +1,78 @@
+-- All values, where those that aren't at home are given by a function.
+use Rattle.std.proofs.Common.{◌≡◌, ℕ, zero, suc, Option, Some, None, List, [], ◌∷◌, ◌++◌, true, refl, ap, ◌∙◌, arith}
+use Rattle.std.specs.Prelude.{slice_get, slice_set, is_some, option_to_list}
+use Rattle.lane_core.specs.Cores.{filled}
+
+module _ {C : Type 0} where
+  -- each object that isn't at home is given a value
+  abbrev pub Covers : (ℕ → Option C) → List (Option C) → Type 0
+  Covers away values = (n : ℕ) → slice_get values n ≡ Some None → is_some (away n) ≡ true
+
+  -- functions that give the same
+  filled-same : (away after : ℕ → Option C) (values : List (Option C)) →
+      ((n : ℕ) → after n ≡ away n) → filled after values ≡ filled away values
+  filled-same away after [] same = refl
+  filled-same away after (Some value ∷ rest) same =
+      ap (λ xs. value ∷ xs)
+      (filled-same (λ n. away (suc n)) (λ n. after (suc n)) rest (λ n. same (suc n)))
+  filled-same away after (None ∷ rest) same =
+      rw (same 0, filled-same (λ n. away (suc n)) (λ n. after (suc n)) rest (λ n. same (suc n)))
+      refl
+
+  -- a value in front
+  set_front : (o : Option C) (value : C) (xs : List C) → is_some o ≡ true →
+      value ∷ xs ≡ slice_set (option_to_list o ++ xs) 0 value
+  set_front None value xs some = absurd cc
+  set_front (Some old) value xs some = refl
+
+  set_behind : (o : Option C) (i : ℕ) (value : C) (xs : List C) → is_some o ≡ true →
+      option_to_list o ++ slice_set xs i value
+      ≡ slice_set (option_to_list o ++ xs) (suc i) value
+  set_behind None i value xs some = absurd cc
+  set_behind (Some first) i value xs some = refl
+
+  get_front : (o : Option C) (value : C) (xs : List C) → o ≡ Some value →
+      slice_get (option_to_list o ++ xs) 0 ≡ Some value
+  get_front o value xs is = rw is refl
+
+  get_behind : (o : Option C) (i : ℕ) (xs : List C) → is_some o ≡ true →
+      slice_get (option_to_list o ++ xs) (suc i) ≡ slice_get xs i
+  get_behind None i xs some = absurd cc
+  get_behind (Some first) i xs some = refl
+
+  -- the value of an object that isn't at home
+  pub get-filled : (away : ℕ → Option C) (values : List (Option C)) (i : ℕ) (value : C) →
+      Covers away values → slice_get values i ≡ Some None → away i ≡ Some value →
+      slice_get (filled away values) i ≡ Some value
+  get-filled away [] i value covers here is = absurd cc
+  get-filled away (Some first ∷ rest) zero value covers here is = absurd cc
+  get-filled away (Some first ∷ rest) (suc i) value covers here is =
+      get-filled (λ n. away (suc n)) rest i value (λ n. covers (suc n)) here is
+  get-filled away (None ∷ rest) zero value covers here is =
+      get_front (away 0) value (filled (λ n. away (suc n)) rest) is
+  get-filled away (None ∷ rest) (suc i) value covers here is =
+      get_behind (away 0) i (filled (λ n. away (suc n)) rest) (covers 0 refl)
+      ∙ get-filled (λ n. away (suc n)) rest i value (λ n. covers (suc n)) here is
+
+  -- another value of one object that isn't at home
+  pub filled-put : (away after : ℕ → Option C) (values : List (Option C)) (i : ℕ) (value : C) →
+      Covers away values → slice_get values i ≡ Some None → after i ≡ Some value →
+      ((n : ℕ) → (n ≡ i → ⊥) → after n ≡ away n) →
+      filled after values ≡ slice_set (filled away values) i value
+  filled-put away after [] i value covers here is others = absurd cc
+  filled-put away after (Some first ∷ rest) zero value covers here is others = absurd cc
+  filled-put away after (Some first ∷ rest) (suc i) value covers here is others =
+      ap (λ xs. first ∷ xs)
+      (filled-put (λ n. away (suc n)) (λ n. after (suc n)) rest i value (λ n. covers (suc n)) here
+      is (λ n differs. others (suc n) (λ e. differs (omega (arith, e)))))
+  filled-put away after (None ∷ rest) zero value covers here is others =
+      let tail = filled-same (λ n. away (suc n)) (λ n. after (suc n)) rest
+      (λ n. others (suc n) (λ e. omega (arith, e))) in
+      rw (is, tail) (set_front (away 0) value (filled (λ n. away (suc n)) rest) (covers 0 refl))
+  filled-put away after (None ∷ rest) (suc i) value covers here is others =
+      let same = others 0 (λ e. omega (arith, e)) in
+      let tail = filled-put (λ n. away (suc n)) (λ n. after (suc n)) rest i value
+      (λ n. covers (suc n)) here is
+      (λ n differs. others (suc n) (λ e. differs (omega (arith, e)))) in
+      rw (same, tail)
+      (set_behind (away 0) i value (filled (λ n. away (suc n)) rest) (covers 0 refl))

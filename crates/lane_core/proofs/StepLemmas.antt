@@ -1,0 +1,221 @@
+-- What does a lane come to with one run more?
+--
+-- It takes the first entry that waits: the object's value is stepped, the contribution is joined,
+-- and all other objects are as they were.
+use Rattle.std.proofs.Common.{◌≡◌, ℕ, zero, suc, ◌+◌, ◌<◌, ◌≤◌, Bool, true, false, Option, Some, None, List, [], ◌∷◌, length, refl, sym, ap, ◌∙◌, subst, arith, rules}
+use Rattle.std.specs.Prelude.{◌==◌, ◌&&◌, is_some, is_none}
+use Rattle.std.specs.Option.{option_or}
+use Rattle.std.proofs.lemmas.Bool.{eqb-true}
+use Rattle.execution_definitions.specs.Meanings.{Meaning}
+use Rattle.interleavings.specs.Machines.{Entry}
+use Rattle.set_queue.specs.declared.message.Message.{Message}
+use Rattle.set_queue.specs.declared.message.Message.TheVariants as message
+use Rattle.delegates.specs.Stores.{Stored, value_of, holding, entry, stepped, taken}
+use Rattle.lane_core.specs.Views.{entries_in}
+use Rattle.lane_core.specs.Cuts.{LaneAtCut, lane_after}
+use Rattle.lane_core.specs.Cores.{carried, value_in}
+use Rattle.lane_core.specs.Kept.{finds, all_find}
+use Rattle.lane_core.proofs.StoreLemmas.{holding_here, holding_other, stepped_here, stepped_other, taken-whole, stays_whole, ran-found}
+
+-- ---- small words
+
+some_value : {A : Type 0} (o : Option A) → is_some o ≡ true → (a : A) × (o ≡ Some a)
+some_value None some = absurd cc
+some_value (Some a) some = (a, refl)
+
+no_value : {A : Type 0} (o : Option A) → is_none o ≡ true → o ≡ None
+no_value None none = refl
+no_value (Some a) none = absurd cc
+
+both_true : (a b : Bool) → (a && b) ≡ true → (a ≡ true) × (b ≡ true)
+both_true true b both = (refl, both)
+both_true false b both = absurd cc
+
+pub same_as_itself : (n : ℕ) → (n == n) ≡ true
+same_as_itself n = search rules
+
+pub not_the_other : (n k : ℕ) → (n ≡ k → ⊥) → (n == k) ≡ false
+not_the_other n k differs = by (n == k) refl where
+  by : (b : Bool) → (n == k) ≡ b → (n == k) ≡ false
+  by true is = absurd (differs (eqb-true n k is))
+  by false is = is
+
+pub are_apart : (n k : ℕ) → (n == k) ≡ false → n ≡ k → ⊥
+are_apart n k is same =
+    let equal : (n == k) ≡ true = subst (λ j. (n == j) ≡ true) same (same_as_itself n) in
+    absurd cc
+
+module _ {C O R : Type 0} (m : Meaning C O R) where
+  -- a lane takes this entry, whose object has this value
+  pub record IsStep (before after : LaneAtCut C O R) (e : Entry C O) (value : C) : Type 0 where
+    pub entries : entries_in before.waiting ≡ e ∷ entries_in after.waiting
+    pub had : value_in e.run.object.0 before ≡ Some value
+    pub has : value_in e.run.object.0 after ≡ Some (m.step value e.op e.read).0
+    pub total :
+        after.store.total ≡ m.join before.store.total (m.step value e.op e.read).1
+    pub others :
+        (n : ℕ) → (n ≡ e.run.object.0 → ⊥) → value_in n after ≡ value_in n before
+
+  pub record Steps (before after : LaneAtCut C O R) : Type 0 where
+    pub taken : Entry C O
+    pub value : C
+    pub is : IsStep before after taken value
+
+  -- behind a stop
+  stop_first : (s : Stored C R) (rest : List (Message C O R)) (after : LaneAtCut C O R) →
+      Steps (record { store = s; waiting = rest }) after →
+      Steps (record { store = s; waiting = message.Stop ∷ rest }) after
+  stop_first s rest after steps = record {
+    taken = steps.taken;
+    value = steps.value;
+    is = record {
+      entries = steps.is.entries;
+      had = steps.is.had;
+      has = steps.is.has;
+      total = steps.is.total;
+      others = steps.is.others;
+    };
+  }
+
+  -- the object is in the store
+  run_first : (s : Stored C R) (x : Message C O R) (rest : List (Message C O R)) (e : Entry C O)
+      (value : C) → entries_in (x ∷ rest) ≡ e ∷ entries_in rest →
+      ((n : ℕ) → carried n (x ∷ rest) ≡ carried n rest) →
+      value_of s e.run.object.0 ≡ Some value →
+      taken m s x ≡ stepped m s e.run (m.step value e.op e.read) →
+      Steps (record { store = s; waiting = x ∷ rest })
+      (record { store = taken m s x; waiting = rest })
+  run_first s x rest e value front carries here takes =
+      let after = m.step value e.op e.read in
+      subst (λ (t : Stored C R). Steps (record { store = s; waiting = x ∷ rest })
+      (record { store = t; waiting = rest })) (sym takes)
+      (record {
+        taken = e;
+        value = value;
+        is = record {
+          entries = front;
+          had = ap (λ o. option_or o (carried e.run.object.0 (x ∷ rest))) here;
+          has = ap (λ o. option_or o (carried e.run.object.0 rest))
+              (stepped_here m s e value after here);
+          total = refl;
+          others = λ n differs.
+              ap (λ o. option_or o (carried n rest)) (stepped_other m s e after n differs)
+              ∙ ap (λ o. option_or (value_of s n) o) (sym (carries n));
+        };
+      })
+
+  -- the message carries the object
+  carry_first : (s : Stored C R) (x : Message C O R) (rest : List (Message C O R)) (e : Entry C O)
+      (value : C) → entries_in (x ∷ rest) ≡ e ∷ entries_in rest →
+      carried e.run.object.0 (x ∷ rest) ≡ Some value →
+      ((n : ℕ) → (n ≡ e.run.object.0 → ⊥) → carried n (x ∷ rest) ≡ carried n rest) →
+      value_of s e.run.object.0 ≡ None →
+      taken m s x
+      ≡ stepped m (holding s e.run.object.0 value) e.run (m.step value e.op e.read) →
+      Steps (record { store = s; waiting = x ∷ rest })
+      (record { store = taken m s x; waiting = rest })
+  carry_first s x rest e value front carries others none takes =
+      let object = e.run.object.0 in
+      let held = holding s object value in
+      let after = m.step value e.op e.read in
+      subst (λ (t : Stored C R). Steps (record { store = s; waiting = x ∷ rest })
+      (record { store = t; waiting = rest })) (sym takes)
+      (record {
+        taken = e;
+        value = value;
+        is = record {
+          entries = front;
+          had = ap (λ o. option_or o (carried object (x ∷ rest))) none ∙ carries;
+          has = ap (λ o. option_or o (carried object rest))
+              (stepped_here m held e value after (holding_here s object value));
+          total = refl;
+          others = λ n differs.
+              ap (λ o. option_or o (carried n rest))
+              (stepped_other m held e after n differs ∙ holding_other s object value n differs)
+              ∙ ap (λ o. option_or (value_of s n) o) (sym (others n differs));
+        };
+      })
+
+  -- one run more, where there is one
+  pub steps_on : (runs : ℕ) (s : Stored C R) (messages : List (Message C O R)) →
+      s.is_broken ≡ false → all_find m s messages ≡ true →
+      runs < length (entries_in messages) →
+      Steps (lane_after m runs s messages) (lane_after m (suc runs) s messages)
+  steps_on runs s [] whole found room = absurd (omega (arith, room))
+  steps_on zero s (message.Stop ∷ rest) whole found room =
+      stop_first s rest (lane_after m (suc zero) s rest)
+      (steps_on zero s rest whole
+      (subst (λ t. all_find m t rest ≡ true) (taken-whole m s message.Stop whole) found) room)
+  steps_on (suc runs) s (message.Stop ∷ rest) whole found room =
+      steps_on (suc runs) s rest whole
+      (subst (λ t. all_find m t rest ≡ true) (taken-whole m s message.Stop whole) found) room
+  steps_on zero s (message.Carry call epoch set object value op reading ∷ rest) whole found room =
+      let x = message.Carry call epoch set object value op reading in
+      let e = entry call epoch set object op reading in
+      let parts = both_true (finds s x) (all_find m (taken m s x) rest) found in
+      carry_first s x rest e value refl
+      (rw (same_as_itself object.0) refl)
+      (λ n differs. rw (not_the_other object.0 n (λ same. differs (sym same))) refl)
+      (no_value (value_of s object.0) parts.0)
+      (taken-whole m s x whole
+      ∙ ran-found m (holding s object.0 value) e value (holding_here s object.0 value))
+  steps_on zero s (message.Run call epoch set object op reading ∷ rest) whole found room =
+      let x = message.Run call epoch set object op reading in
+      let e = entry call epoch set object op reading in
+      let parts = both_true (finds s x) (all_find m (taken m s x) rest) found in
+      let has = some_value (value_of s object.0) parts.0 in
+      run_first s x rest e has.0 refl (λ n. refl) has.1
+      (taken-whole m s x whole ∙ ran-found m s e has.0 has.1)
+  steps_on (suc runs) s (message.Carry call epoch set object value op reading ∷ rest) whole found
+      room =
+      let x = message.Carry call epoch set object value op reading in
+      let parts = both_true (finds s x) (all_find m (taken m s x) rest) found in
+      steps_on runs (taken m s x) rest (stays_whole m s x whole) parts.1 (omega (arith, room))
+  steps_on (suc runs) s (message.Run call epoch set object op reading ∷ rest) whole found room =
+      let x = message.Run call epoch set object op reading in
+      let parts = both_true (finds s x) (all_find m (taken m s x) rest) found in
+      steps_on runs (taken m s x) rest (stays_whole m s x whole) parts.1 (omega (arith, room))
+
+  -- a step neither brings an object nor loses one
+  step_keeps : (before after : LaneAtCut C O R) (steps : Steps before after) (n : ℕ) →
+      is_some (value_in n after) ≡ is_some (value_in n before)
+  step_keeps before after steps n = by (n == object) refl where
+    object : ℕ
+    object = steps.taken.run.object.0
+
+    by : (b : Bool) → (n == object) ≡ b →
+        is_some (value_in n after) ≡ is_some (value_in n before)
+    by true is =
+        subst (λ k. is_some (value_in k after) ≡ is_some (value_in k before))
+        (sym (eqb-true n object is))
+        (ap (λ o. is_some o) (steps.is.has) ∙ sym (ap (λ o. is_some o) steps.is.had))
+    by false is = ap (λ o. is_some o) (steps.is.others n (are_apart n object is))
+
+  -- so a lane has the same objects however far it has come
+  pub has_the_same : (runs : ℕ) (s : Stored C R) (messages : List (Message C O R)) →
+      s.is_broken ≡ false → all_find m s messages ≡ true →
+      runs ≤ length (entries_in messages) → (n : ℕ) →
+      is_some (value_in n (lane_after m runs s messages))
+      ≡ is_some (value_in n (record { store = s; waiting = messages }))
+  has_the_same zero s messages whole found room n = refl
+  has_the_same (suc runs) s messages whole found room n =
+      step_keeps (lane_after m runs s messages) (lane_after m (suc runs) s messages)
+      (steps_on runs s messages whole found (omega (arith, room))) n
+      ∙ has_the_same runs s messages whole found (omega (arith, room)) n
+
+  -- what waits in a lane that has come so far
+  pub entries_left : (runs : ℕ) (s : Stored C R) (messages : List (Message C O R)) →
+      runs ≤ length (entries_in messages) →
+      runs + length (entries_in (lane_after m runs s messages).waiting)
+      ≡ length (entries_in messages)
+  entries_left zero s messages room = omega arith
+  entries_left (suc runs) s [] room = absurd (omega (arith, room))
+  entries_left (suc runs) s (message.Stop ∷ rest) room = entries_left (suc runs) s rest room
+  entries_left (suc runs) s (message.Carry call epoch set object value op reading ∷ rest) room =
+      let x = message.Carry call epoch set object value op reading in
+      let left = entries_left runs (taken m s x) rest (omega (arith, room)) in
+      omega (arith, left)
+  entries_left (suc runs) s (message.Run call epoch set object op reading ∷ rest) room =
+      let x = message.Run call epoch set object op reading in
+      let left = entries_left runs (taken m s x) rest (omega (arith, room)) in
+      omega (arith, left)

@@ -1,0 +1,5 @@
+pub mod Views
+pub mod Cuts
+pub mod Cores
+pub mod Kept
+pub mod Laws
