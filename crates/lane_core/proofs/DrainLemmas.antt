@@ -112,7 +112,7 @@ module _ {C O R : Type 0} (m : Meaning C O R) where
   count_at_cut (lane ∷ lanes) [] is = absurd is
   count_at_cut (lane ∷ lanes) (runs ∷ cut) is = ap suc (count_at_cut lanes cut is.2)
 
-  module _ (laws : ReducibleLaws m.unit m.join) (view : LanesView C O R) (kept : IsKept m view)
+  module _ (laws : ReducibleLaws m.unit m.join) (view : LanesView C O R) (kept : IsKept view)
     where
       -- the event of a lane, where it is first
       event_first : (cut : List ℕ) (next : HasNext (core m view cut).lanes) →

@@ -23,12 +23,12 @@ get-set (first ∷ xs) zero x y here = refl
 get-set (first ∷ xs) (suc i) x y here = get-set xs i x y here
 
 module _ {C O R : Type 0} (m : Meaning C O R) where
-  pub are_served : (view : LanesView C O R) → IsKept m view → AreServed m view.lanes
+  pub are_served : (view : LanesView C O R) → IsKept view → AreServed view.lanes
   are_served view kept number lane there =
       record { whole = kept.whole number lane there; served = kept.served number lane there }
 
   -- at each cut each object that isn't at home has a value
-  pub covers : (view : LanesView C O R) → IsKept m view → (cut : List ℕ) →
+  pub covers : (view : LanesView C O R) → IsKept view → (cut : List ℕ) →
       IsCut view.lanes cut → Covers (value_away view (lanes_at m view.lanes cut)) view.values
   covers view kept cut is object away =
       let place = kept.away object away in
@@ -81,7 +81,7 @@ module _ {C O R : Type 0} (m : Meaning C O R) where
       (ap (operated_on m core.state e.run.object.0 e.op e.read) here)
 
   module _ (laws : ReducibleLaws m.unit m.join) where
-    is_event : (view : LanesView C O R) → IsKept m view → (cut : List ℕ) (number : ℕ) →
+    is_event : (view : LanesView C O R) → IsKept view → (cut : List ℕ) (number : ℕ) →
         IsCut view.lanes cut → GoesOn m view.lanes cut number →
         IsLaneEvent m (core m view cut) (core m view (with_one_more number cut)) number
     is_event view kept cut number is on =
@@ -118,7 +118,7 @@ module _ {C O R : Type 0} (m : Meaning C O R) where
               ∙ sym leaves;
         }
 
-    pub cuts_go_on : (view : LanesView C O R) → IsKept m view → CutsGoOn m view
+    pub cuts_go_on : (view : LanesView C O R) → IsKept view → CutsGoOn m view
     cuts_go_on view kept cut number inside is next =
         is_event view kept cut number is
         (goes_on m view.lanes cut number (are_served view kept) inside is next)

@@ -9,7 +9,7 @@ use Rattle.interleavings.specs.Machines.{Entry, front_at, behind_front, without_
 use Rattle.lane_core.specs.Views.{LaneView, entries_in, runs_known, runs_sent}
 use Rattle.lane_core.specs.Cuts.{LaneAtCut, IsCut, with_one_more, lane_after, lane_at, lanes_at}
 use Rattle.lane_core.specs.Cores.{value_in, with_total_of}
-use Rattle.lane_core.specs.Kept.{has_object, all_find}
+use Rattle.lane_core.specs.Kept.{has_object, all_find, is_in_store}
 use Rattle.lane_core.proofs.StepLemmas.{Steps, steps_on, has_the_same, entries_left}
 
 module _ {C O R : Type 0} where
@@ -33,16 +33,16 @@ module _ {C O R : Type 0} where
       let most = within.most in
       omega arith
 
-module _ {C O R : Type 0} (m : Meaning C O R) where
   -- a lane's messages find their objects
   pub record IsServed (lane : LaneView C O R) : Type 0 where
     pub whole : lane.base.is_broken ≡ false
-    pub served : all_find m lane.base lane.since ≡ true
+    pub served : all_find (is_in_store lane.base) lane.since ≡ true
 
   abbrev pub AreServed : List (LaneView C O R) → Type 0
   AreServed lanes =
       (number : ℕ) (lane : LaneView C O R) → slice_get lanes number ≡ Some lane → IsServed lane
 
+module _ {C O R : Type 0} (m : Meaning C O R) where
   -- however far a lane has come, it has its objects
   pub keeps_objects : (lane : LaneView C O R) (runs : ℕ) → IsServed lane → IsWithin lane runs →
       (n : ℕ) → is_some (value_in n (lane_at m lane runs)) ≡ has_object lane n

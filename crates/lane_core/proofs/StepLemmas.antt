@@ -3,18 +3,18 @@
 -- It takes the first entry that waits: the object's value is stepped, the contribution is joined,
 -- and all other objects are as they were.
 use Rattle.std.proofs.Common.{◌≡◌, ℕ, zero, suc, ◌+◌, ◌<◌, ◌≤◌, Bool, true, false, Option, Some, None, List, [], ◌∷◌, length, refl, sym, ap, ◌∙◌, subst, arith, rules}
-use Rattle.std.specs.Prelude.{◌==◌, ◌&&◌, is_some, is_none}
+use Rattle.std.specs.Prelude.{◌==◌, ◌&&◌, ◌||◌, not, is_some}
 use Rattle.std.specs.Option.{option_or}
 use Rattle.std.proofs.lemmas.Bool.{eqb-true}
 use Rattle.execution_definitions.specs.Meanings.{Meaning}
 use Rattle.interleavings.specs.Machines.{Entry}
 use Rattle.set_queue.specs.declared.message.Message.{Message}
 use Rattle.set_queue.specs.declared.message.Message.TheVariants as message
-use Rattle.delegates.specs.Stores.{Stored, value_of, holding, entry, stepped, taken}
+use Rattle.delegates.specs.Stores.{Stored, value_of, holding, entry, stepped, ran, after_message, taken}
 use Rattle.lane_core.specs.Views.{entries_in}
 use Rattle.lane_core.specs.Cuts.{LaneAtCut, lane_after}
 use Rattle.lane_core.specs.Cores.{carried, value_in}
-use Rattle.lane_core.specs.Kept.{finds, all_find}
+use Rattle.lane_core.specs.Kept.{with_number, all_find, is_in_store}
 use Rattle.lane_core.proofs.StoreLemmas.{holding_here, holding_other, stepped_here, stepped_other, taken-whole, stays_whole, ran-found}
 
 -- ---- small words
@@ -23,13 +23,16 @@ some_value : {A : Type 0} (o : Option A) → is_some o ≡ true → (a : A) × (
 some_value None some = absurd cc
 some_value (Some a) some = (a, refl)
 
-no_value : {A : Type 0} (o : Option A) → is_none o ≡ true → o ≡ None
+no_value : {A : Type 0} (o : Option A) → not (is_some o) ≡ true → o ≡ None
 no_value None none = refl
 no_value (Some a) none = absurd cc
 
 both_true : (a b : Bool) → (a && b) ≡ true → (a ≡ true) × (b ≡ true)
 both_true true b both = (refl, both)
 both_true false b both = absurd cc
+
+both_are : (a b : Bool) → a ≡ true → b ≡ true → (a && b) ≡ true
+both_are a b first second = rw (first, second) refl
 
 pub same_as_itself : (n : ℕ) → (n == n) ≡ true
 same_as_itself n = search rules
@@ -45,7 +48,52 @@ are_apart n k is same =
     let equal : (n == k) ≡ true = subst (λ j. (n == j) ≡ true) same (same_as_itself n) in
     absurd cc
 
+module _ {C O R : Type 0} where
+  -- messages find their objects where the same objects are there
+  all_find-same : (f g : ℕ → Bool) → ((n : ℕ) → g n ≡ f n) → (messages : List (Message C O R)) →
+      all_find f messages ≡ true → all_find g messages ≡ true
+  all_find-same f g same [] found = refl
+  all_find-same f g same (message.Stop ∷ rest) found = all_find-same f g same rest found
+  all_find-same f g same (message.Carry call epoch set object value op reading ∷ rest) found =
+      let parts = both_true (not (f object.0)) (all_find (with_number f object.0) rest) found in
+      both_are (not (g object.0)) (all_find (with_number g object.0) rest)
+      (ap not (same object.0) ∙ parts.0)
+      (all_find-same (with_number f object.0) (with_number g object.0)
+      (λ n. ap (λ b. (n == object.0) || b) (same n)) rest parts.1)
+  all_find-same f g same (message.Run call epoch set object op reading ∷ rest) found =
+      let parts = both_true (f object.0) (all_find f rest) found in
+      both_are (g object.0) (all_find g rest) (same object.0 ∙ parts.0)
+      (all_find-same f g same rest parts.1)
+
 module _ {C O R : Type 0} (m : Meaning C O R) where
+  -- an entry that ran on an object of a store leaves it the same objects
+  stepped_has : (s : Stored C R) (e : Entry C O) (old : C) (after : C × R) →
+      value_of s e.run.object.0 ≡ Some old → (n : ℕ) →
+      is_in_store (stepped m s e.run after) n ≡ is_in_store s n
+  stepped_has s e old after here n = by (n == e.run.object.0) refl where
+    by : (b : Bool) → (n == e.run.object.0) ≡ b →
+        is_in_store (stepped m s e.run after) n ≡ is_in_store s n
+    by true is =
+        subst (λ k. is_in_store (stepped m s e.run after) k ≡ is_in_store s k)
+        (sym (eqb-true n e.run.object.0 is))
+        (ap (λ o. is_some o) (stepped_here m s e old after here)
+        ∙ sym (ap (λ o. is_some o) here))
+    by false is =
+        ap (λ o. is_some o)
+        (stepped_other m s e after n (are_apart n e.run.object.0 is))
+
+  -- a store into which an object was put has that one too
+  holding_has : (s : Stored C R) (object : ℕ) (value : C) (n : ℕ) →
+      is_in_store (holding s object value) n ≡ with_number (is_in_store s) object n
+  holding_has s object value n = by (n == object) refl where
+    by : (b : Bool) → (n == object) ≡ b →
+        is_in_store (holding s object value) n ≡ (b || is_in_store s n)
+    by true is =
+        ap (λ k. is_in_store (holding s object value) k) (eqb-true n object is)
+        ∙ ap (λ o. is_some o) (holding_here s object value)
+    by false is =
+        ap (λ o. is_some o) (holding_other s object value n (are_apart n object is))
+
   -- a lane takes this entry, whose object has this value
   pub record IsStep (before after : LaneAtCut C O R) (e : Entry C O) (value : C) : Type 0 where
     pub entries : entries_in before.waiting ≡ e ∷ entries_in after.waiting
@@ -136,45 +184,88 @@ module _ {C O R : Type 0} (m : Meaning C O R) where
         };
       })
 
+  -- what a message does that carries an object, and a run
+  carry_taken : (s : Stored C R) (e : Entry C O) (x : Message C O R) (value : C) →
+      s.is_broken ≡ false →
+      after_message m s x ≡ ran m (holding s e.run.object.0 value) e →
+      taken m s x
+      ≡ stepped m (holding s e.run.object.0 value) e.run (m.step value e.op e.read)
+  carry_taken s e x value whole is =
+      taken-whole m s x whole ∙ is
+      ∙ ran-found m (holding s e.run.object.0 value) e value
+      (holding_here s e.run.object.0 value)
+
+  run_taken : (s : Stored C R) (e : Entry C O) (x : Message C O R) (value : C) →
+      s.is_broken ≡ false → after_message m s x ≡ ran m s e →
+      value_of s e.run.object.0 ≡ Some value →
+      taken m s x ≡ stepped m s e.run (m.step value e.op e.read)
+  run_taken s e x value whole is here =
+      taken-whole m s x whole ∙ is ∙ ran-found m s e value here
+
+  carry_has : (s : Stored C R) (e : Entry C O) (x : Message C O R) (value : C) →
+      taken m s x
+      ≡ stepped m (holding s e.run.object.0 value) e.run (m.step value e.op e.read) →
+      (n : ℕ) →
+      is_in_store (taken m s x) n ≡ with_number (is_in_store s) e.run.object.0 n
+  carry_has s e x value takes n =
+      ap (λ (t : Stored C R). is_in_store t n) takes
+      ∙ stepped_has (holding s e.run.object.0 value) e value (m.step value e.op e.read)
+      (holding_here s e.run.object.0 value) n
+      ∙ holding_has s e.run.object.0 value n
+
+  run_has : (s : Stored C R) (e : Entry C O) (x : Message C O R) (value : C) →
+      taken m s x ≡ stepped m s e.run (m.step value e.op e.read) →
+      value_of s e.run.object.0 ≡ Some value → (n : ℕ) →
+      is_in_store (taken m s x) n ≡ is_in_store s n
+  run_has s e x value takes here n =
+      ap (λ (t : Stored C R). is_in_store t n) takes
+      ∙ stepped_has s e value (m.step value e.op e.read) here n
+
   -- one run more, where there is one
   pub steps_on : (runs : ℕ) (s : Stored C R) (messages : List (Message C O R)) →
-      s.is_broken ≡ false → all_find m s messages ≡ true →
+      s.is_broken ≡ false → all_find (is_in_store s) messages ≡ true →
       runs < length (entries_in messages) →
       Steps (lane_after m runs s messages) (lane_after m (suc runs) s messages)
   steps_on runs s [] whole found room = absurd (omega (arith, room))
   steps_on zero s (message.Stop ∷ rest) whole found room =
-      stop_first s rest (lane_after m (suc zero) s rest)
-      (steps_on zero s rest whole
-      (subst (λ t. all_find m t rest ≡ true) (taken-whole m s message.Stop whole) found) room)
+      stop_first s rest (lane_after m (suc zero) s rest) (steps_on zero s rest whole found room)
   steps_on (suc runs) s (message.Stop ∷ rest) whole found room =
-      steps_on (suc runs) s rest whole
-      (subst (λ t. all_find m t rest ≡ true) (taken-whole m s message.Stop whole) found) room
+      steps_on (suc runs) s rest whole found room
   steps_on zero s (message.Carry call epoch set object value op reading ∷ rest) whole found room =
       let x = message.Carry call epoch set object value op reading in
       let e = entry call epoch set object op reading in
-      let parts = both_true (finds s x) (all_find m (taken m s x) rest) found in
+      let parts = both_true (not (is_in_store s object.0))
+      (all_find (with_number (is_in_store s) object.0) rest) found in
       carry_first s x rest e value refl
       (rw (same_as_itself object.0) refl)
       (λ n differs. rw (not_the_other object.0 n (λ same. differs (sym same))) refl)
       (no_value (value_of s object.0) parts.0)
-      (taken-whole m s x whole
-      ∙ ran-found m (holding s object.0 value) e value (holding_here s object.0 value))
+      (carry_taken s e x value whole refl)
   steps_on zero s (message.Run call epoch set object op reading ∷ rest) whole found room =
       let x = message.Run call epoch set object op reading in
       let e = entry call epoch set object op reading in
-      let parts = both_true (finds s x) (all_find m (taken m s x) rest) found in
+      let parts = both_true (is_in_store s object.0) (all_find (is_in_store s) rest) found in
       let has = some_value (value_of s object.0) parts.0 in
-      run_first s x rest e has.0 refl (λ n. refl) has.1
-      (taken-whole m s x whole ∙ ran-found m s e has.0 has.1)
+      run_first s x rest e has.0 refl (λ n. refl) has.1 (run_taken s e x has.0 whole refl has.1)
   steps_on (suc runs) s (message.Carry call epoch set object value op reading ∷ rest) whole found
       room =
       let x = message.Carry call epoch set object value op reading in
-      let parts = both_true (finds s x) (all_find m (taken m s x) rest) found in
-      steps_on runs (taken m s x) rest (stays_whole m s x whole) parts.1 (omega (arith, room))
+      let e = entry call epoch set object op reading in
+      let parts = both_true (not (is_in_store s object.0))
+      (all_find (with_number (is_in_store s) object.0) rest) found in
+      let takes = carry_taken s e x value whole refl in
+      steps_on runs (taken m s x) rest (stays_whole m s x whole)
+      (all_find-same (with_number (is_in_store s) object.0) (is_in_store (taken m s x))
+      (carry_has s e x value takes) rest parts.1) (omega (arith, room))
   steps_on (suc runs) s (message.Run call epoch set object op reading ∷ rest) whole found room =
       let x = message.Run call epoch set object op reading in
-      let parts = both_true (finds s x) (all_find m (taken m s x) rest) found in
-      steps_on runs (taken m s x) rest (stays_whole m s x whole) parts.1 (omega (arith, room))
+      let e = entry call epoch set object op reading in
+      let parts = both_true (is_in_store s object.0) (all_find (is_in_store s) rest) found in
+      let has = some_value (value_of s object.0) parts.0 in
+      let takes = run_taken s e x has.0 whole refl has.1 in
+      steps_on runs (taken m s x) rest (stays_whole m s x whole)
+      (all_find-same (is_in_store s) (is_in_store (taken m s x))
+      (run_has s e x has.0 takes has.1) rest parts.1) (omega (arith, room))
 
   -- a step neither brings an object nor loses one
   step_keeps : (before after : LaneAtCut C O R) (steps : Steps before after) (n : ℕ) →
@@ -193,7 +284,7 @@ module _ {C O R : Type 0} (m : Meaning C O R) where
 
   -- so a lane has the same objects however far it has come
   pub has_the_same : (runs : ℕ) (s : Stored C R) (messages : List (Message C O R)) →
-      s.is_broken ≡ false → all_find m s messages ≡ true →
+      s.is_broken ≡ false → all_find (is_in_store s) messages ≡ true →
       runs ≤ length (entries_in messages) → (n : ℕ) →
       is_some (value_in n (lane_after m runs s messages))
       ≡ is_some (value_in n (record { store = s; waiting = messages }))

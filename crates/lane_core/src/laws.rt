@@ -13,8 +13,7 @@ use class_laws::{Class, reducible_laws};
 /// is enabled in the core of the other, and leaves its core. So a delegate that takes a run takes a
 /// step of the machine.
 pub fn cut_event<C: Class>()
-    ensures { (view : LanesView C C.Op C.Red) → IsKept C.meaning view →
-        CutsGoOn C.meaning view }
+    ensures { (view : LanesView C C.Op C.Red) → IsKept view → CutsGoOn C.meaning view }
 {
     joins_are_lawful::<C>();
 }
@@ -23,10 +22,10 @@ pub fn cut_event<C: Class>()
 /// delegates have come. The least cut is one of them, and that to which its core drains is the
 /// logical state.
 pub fn cut_drain<C: Class>()
-    ensures same { (view : LanesView C C.Op C.Red) → IsKept C.meaning view →
+    ensures same { (view : LanesView C C.Op C.Red) → IsKept view →
         CutsDrainAlike C.meaning view }
     ensures least { (view : LanesView C C.Op C.Red) → IsCut view.lanes (least_cut view.lanes) }
-    ensures logical { (view : LanesView C C.Op C.Red) → IsKept C.meaning view →
+    ensures logical { (view : LanesView C C.Op C.Red) → IsKept view →
         CutsAreLogical C.meaning view }
 {
     joins_are_lawful::<C>();

@@ -14,7 +14,7 @@ use Rattle.set_queue.specs.declared.message.Message.TheVariants as message
 use Rattle.lane_core.specs.Views.{LaneView, LanesView, lane_of_object}
 use Rattle.lane_core.specs.Cuts.{IsCut, least_cut, with_one_more}
 use Rattle.lane_core.specs.Cores.{core, logical_state}
-use Rattle.lane_core.specs.Kept.{has_object, all_find, IsIn, IsKept}
+use Rattle.lane_core.specs.Kept.{has_object, all_find, is_in_store, IsIn, IsKept}
 use Rattle.lane_core.proofs.StoreLemmas.{other_number}
 use Rattle.lane_core.proofs.StepLemmas.{not_the_other}
 
@@ -153,11 +153,11 @@ only_1 (suc (suc object)) has =
     rw (not_the_other 1 (suc (suc object)) (λ e. omega (arith, e))) refl in
     absurd cc
 
-kept : IsKept adding view
+kept : IsKept view
 unfolding adding run_of mark_in first second view
 kept = record {
   whole = each (λ lane. lane.base.is_broken ≡ false) refl refl;
-  served = each (λ lane. all_find adding lane.base lane.since ≡ true) refl refl;
+  served = each (λ lane. all_find (is_in_store lane.base) lane.since ≡ true) refl refl;
   away = away;
   apart = λ object number place. apart object number place.lane place.at place.has;
 } where
