@@ -4,6 +4,6 @@ pub mod Limits
 pub mod Generated
 pub mod Answers
 pub mod Texts
+pub mod Readings
 pub mod Runs
 pub mod Printings
-pub mod Readings

@@ -1,18 +1,25 @@
--- What does the result of a command say of the answer that is called for, and which names does a
--- script have that broke the partition rule?
-use Rattle.std.specs.Prelude.{◌≡◌, ℕ, List, [], ⊤, Some, None, IfSome, IfOk, Result, Ok, Err}
+-- What does the result of a command say of the answer that is called for, what becomes of out where
+-- its text is written, and which names does a script have that broke the partition rule?
+use Rattle.std.specs.Prelude.{◌≡◌, ℕ, ◌≤◌, true, List, [], ⊤}
+use Rattle.std.specs.Prelude.{Some, None, IfSome, IfOk, Result, Ok, Err}
 use Rattle.std.specs.declared.option.Option.{Option}
 use Rattle.script_lang.specs.Listings.{Listing}
+use Rattle.ss_base.specs.declared.outside.Sink
+use Rattle.ss_base.specs.Faults.{Rose}
 use Rattle.ss_top.specs.declared.commands.Broken.{Broken}
 use Rattle.ss_top.specs.declared.commands.Printed.{Printed}
 use Rattle.ss_top.specs.declared.no_text.NoText.{NoText}
 use Rattle.ss_top.specs.declared.no_text.NoText.TheVariants as no_text
+use Rattle.ss_top.specs.declared.status.Status.{Status}
+use Rattle.ss_top.specs.declared.status.Status.TheVariants.{WriteFault}
 use Rattle.ss_top.specs.declared.generate.GenFault.{GenFault}
 use Rattle.ss_top.specs.declared.generate.GenFault.TheVariants as fault
 use Rattle.script_lang.specs.declared.fault.ParseFault.{ParseFault}
 use Rattle.script_lang.specs.declared.fault.ParseFault.TheVariants as parse_fault
 use Rattle.ss_top.specs.declared.status.TextFault.TheVariants as text_fault
 use Rattle.ss_top.specs.Answers.{Answer, over_limit, prints, has_fault, breaks_off}
+use Rattle.ss_top.specs.Runs.{Meets, Completes, IsWritten, StaysSure}
+use Rattle.ss_top.specs.Statuses.{has_written}
 
 -- the answer of a text that may stop
 abbrev pub broken_off : List ℕ → Option Broken → Answer
@@ -31,6 +38,19 @@ Answers answer left (Err (no_text.Limit hit)) = answer ≡ Some (over_limit hit)
 Answers answer left (Err (no_text.Text what)) = answer ≡ Some (has_fault what)
 Answers answer left (Err (no_text.ReadFault which)) = ⊤
 Answers answer left (Err no_text.OutOfMemory) = ⊤
+
+module _ {K : Type 0} (sink : Sink.Ghosts K) where
+  -- the text of an answer was written to out, whole or in part, and the run ended with this status
+  pub record IsPrinted (answer : Answer) (status : Status) (before after : K) : Type 0 where
+    pub written : has_written status ≡ true
+    pub never_falls : sink.faults before ≤ sink.faults after
+    pub write_fault : status ≡ WriteFault → Rose (sink.faults before) (sink.faults after)
+    pub sure :
+        IsWritten (Some answer) status (sink.sure before) (sink.faults before) (sink.faults after)
+    pub sure_after : StaysSure (Some answer) (sink.sure before) (sink.sure after)
+    pub meets : Meets (Some answer) status (sink.gained before) (sink.gained after) (Some [])
+    pub complete :
+        Completes (Some answer) status ⊥ (Rose (sink.faults before) (sink.faults after))
 
 -- a script that broke the partition rule, if one did, has these names of objects
 abbrev pub HasNames : Result Printed NoText → List (List ℕ) → Type 0
