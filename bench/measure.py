@@ -1,4 +1,4 @@
-"""What the scripts of this folder share: the yardstick's program, and one measured run of any program."""
+"""What the scripts of this folder share: the yardstick's program, one measured run of any program, and limits."""
 import hashlib
 import os
 import resource
@@ -38,6 +38,7 @@ def held_bytes():
 class Run:
     status: int  # minus the signal's number where a signal ended it
     seconds: float
+    processor_seconds: float  # of all its threads
     peak_bytes: int
     digest: str
 
@@ -58,13 +59,24 @@ def measured(words, input_path=os.devnull, seconds_limit=600.0, folder=None):
         child.returncode = os.waitstatus_to_exitcode(status)
         printed.seek(0)
         digest = hashlib.file_digest(printed, "sha256").hexdigest()
-    return Run(child.returncode, seconds, usage.ru_maxrss * 1024, digest)
+    processor = usage.ru_utime + usage.ru_stime
+    return Run(child.returncode, seconds, processor, usage.ru_maxrss * 1024, digest)
 
 
 def best_of(runs):
-    """The least time and the highest peak of several runs of one command."""
+    """The least times and the highest peak of several runs of one command."""
     last = runs[-1]
-    return Run(last.status, min(r.seconds for r in runs), max(r.peak_bytes for r in runs), last.digest)
+    seconds, processor = min(r.seconds for r in runs), min(r.processor_seconds for r in runs)
+    return Run(last.status, seconds, processor, max(r.peak_bytes for r in runs), last.digest)
+
+
+def is_within(what, figure, limit):
+    """Prints a figure, with its limit where it has one, and answers whether it is kept."""
+    if limit is None:
+        print(f"{what}: {figure:.2f}")
+        return True
+    print(f"{what}: {figure:.2f}, limit {limit:g}{'' if figure <= limit else ', OVER THE LIMIT'}")
+    return figure <= limit
 
 
 def preloaded(code, folder):

@@ -16,7 +16,7 @@ import subprocess
 import sys
 import tempfile
 
-from measure import best_of, held_bytes, measured, yardstick
+from measure import best_of, held_bytes, is_within, measured, yardstick
 
 MIB = 2**20
 
@@ -94,14 +94,6 @@ def worst_growth(seconds):
     """The most that time grows for twice the input. Fronts aren't just halves, so each step is taken for its size."""
     sizes = sorted(seconds)
     return max(seconds[b] / seconds[a] * 2 * a / b for a, b in zip(sizes, sizes[1:]))
-
-
-def is_within(what, figure, limit):
-    if limit is None:
-        print(f"{what}: {figure:.2f}")
-        return True
-    print(f"{what}: {figure:.2f}, limit {limit:g}{'' if figure <= limit else ', OVER THE LIMIT'}")
-    return figure <= limit
 
 
 def main():

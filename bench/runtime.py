@@ -1,24 +1,21 @@
 #!/usr/bin/env python3
-"""Times the crates partition_check, delegation and class_laws beside plain Rust that does the same, in turns on one machine.
+"""Times the crates partition_check, delegation, batch_rt and class_laws beside plain Rust that does the same, in turns on one machine.
 
     runtime.py
 
-The measured program is runtime/*.rt.txt. It is a crate of its own in a temporary clone of the repository's last
-commit, where it is proved and built; the yardstick is runtime/plain/. Prints for each part the least time of the
-repeats and the ratio of the two. Ends with 1 where a build fails or the checksums of the two differ.
+The measured program is runtime/*.rt.txt. It is a crate of its own in a clone of the repository's last commit,
+where it is proved and built; the yardstick is runtime/plain/. Prints for each part the least time of the repeats and
+the ratio of the two. Ends with 1 where a build fails, the checksums of the two differ, or a limit is passed.
 """
-import argparse
 import os
 import pathlib
-import subprocess
 import sys
-import tempfile
 
-from measure import HERE, cargo_program
+from measure import HERE, cargo_program, is_within
+from parts import best_parts, load, parser_of, rattle_program, room
 
 SOURCES = pathlib.Path(HERE) / "runtime"
-CRATE = "runtime_bench"
-DEPENDENCIES = "ss_base execution_definitions class_laws partition_check delegation script_lang"
+DEPENDENCIES = "ss_base execution_definitions class_laws partition_check delegation batch_rt script_lang"
 
 # What is shown: a part's text, its name in either program, and its unit with the nanoseconds that it has.
 NS = ("ns", 1)
@@ -40,52 +37,6 @@ ROWS = [
 ]
 
 
-def measured_program(folder):
-    """Clones the repository to a folder, adds the crate there, and proves and builds it."""
-    top = pathlib.Path(HERE).parent
-    clone = pathlib.Path(folder) / "repository"
-    subprocess.run(["git", "clone", "--quiet", top, clone], check=True)
-    crate = clone / "crates" / CRATE
-    (crate / "src").mkdir(parents=True)
-    for source in SOURCES.glob("*.rt.txt"):
-        (crate / "src" / source.stem).write_text(source.read_text())
-    with open(clone / "crates.txt", "a") as crates:
-        crates.write(f"{CRATE}: {DEPENDENCIES}\n")
-    # The command that builds a program also runs it.
-    built = subprocess.run(["rt", "run"], cwd=crate, stdout=subprocess.PIPE, stderr=subprocess.STDOUT, text=True)
-    if built.returncode != 0:
-        sys.exit(f"{built.stdout}\nthe measured program wasn't built")
-    return crate / "out" / CRATE
-
-
-def lines_of(program, environment):
-    """What a run printed: times and nanoseconds by part, and the checksums by name."""
-    parts, checksums = {}, set()
-    printed = subprocess.run([program], stdout=subprocess.PIPE, text=True, check=True, env=environment).stdout
-    for kind, name, *numbers in map(str.split, printed.splitlines()):
-        if kind == "part":
-            parts[name] = tuple(map(int, numbers))
-        else:
-            checksums.add((name, *numbers))
-    return parts, checksums
-
-
-def best_parts(programs, repeats, environment):
-    """Each program's times and least nanoseconds by part. They take turns."""
-    best = {name: {} for name in programs}
-    seen = set()
-    for turn in range(repeats):
-        names = list(programs)
-        for name in names[turn % 2 :] + names[: turn % 2]:
-            parts, checksums = lines_of(programs[name], environment)
-            seen.add(frozenset(checksums))
-            for part, figures in parts.items():
-                best[name][part] = min(figures, best[name].get(part, figures))
-    if len(seen) != 1:
-        sys.exit("the checksums differ")
-    return best
-
-
 def show(best):
     print(f"{'':37}{'Rattle':>13}{'plain Rust':>13}{'ratio':>8}")
     for text, measured, plain, (unit, scale) in ROWS:
@@ -99,26 +50,37 @@ def show(best):
     print(f"an empty epoch of 65,536 objects / one of 16 objects: {many / few:.2f}")
 
 
-def load():
-    return "load {:.1f} {:.1f} {:.1f}".format(*os.getloadavg())
+def ratio(best, measured, plain, program="plain"):
+    return best["Rattle"][measured][1] / best[program][plain][1]
 
 
 def main():
-    parser = argparse.ArgumentParser(description=__doc__, formatter_class=argparse.RawDescriptionHelpFormatter)
-    parser.add_argument("--repeats", type=int, default=40, help="runs of each program (40)")
+    parser = parser_of(__doc__, repeats=40)
     parser.add_argument("--huge-pages", action="store_true", help="lets both have their memory in pages of 2 MiB")
+    parser.add_argument("--at-most-check", type=float, metavar="X", help="limit on: a delegation's check / plain Rust's")
+    parser.add_argument("--at-most-addition", type=float, metavar="X", help="limit on: an addition on Plain / one in a Vec")
+    parser.add_argument("--at-most-batch", type=float, metavar="X", help="limit on: additions on 4 delegates / on Plain")
     options = parser.parse_args()
     environment = dict(os.environ)
     if options.huge_pages:
         environment["GLIBC_TUNABLES"] = "glibc.malloc.hugetlb=1"
 
-    with tempfile.TemporaryDirectory() as folder:
-        plain = cargo_program(SOURCES / "plain", os.path.join(folder, "target"))
-        programs = {"Rattle": measured_program(folder), "plain": plain}
+    with room(options.keep) as folder:
+        plain = cargo_program(SOURCES / "plain", os.path.join(folder, "runtime"))
+        programs = {"Rattle": [rattle_program(SOURCES, "runtime_bench", DEPENDENCIES, folder)], "plain": [plain]}
         before = load()
         best = best_parts(programs, options.repeats, environment)
-        print(f"{options.repeats} runs of each; {before} before them, {load()} after")
-        show(best)
+    print(f"{options.repeats} runs of each; {before} before them, {load()} after")
+    show(best)
+    checks = [ratio(best, name, name) for name in ("delegate_in_order", "delegate_scattered", "delegate_reading")]
+    # A list, so that every figure is shown.
+    within = [
+        is_within("a delegation's check / plain Rust's, at worst", max(checks), options.at_most_check),
+        is_within("an addition on Plain / one in a Vec", ratio(best, "delegate_plain", "add_in_vec"), options.at_most_addition),
+        is_within("delegations alone, 4 delegates / Plain", ratio(best, "delegate_batch", "delegate_plain", "Rattle"), None),
+        is_within("an epoch of additions, 4 delegates / Plain", ratio(best, "epoch_batch", "epoch_plain", "Rattle"), options.at_most_batch),
+    ]
+    sys.exit(0 if all(within) else 1)
 
 
 if __name__ == "__main__":
