@@ -63,13 +63,13 @@ def rattle_program(sources, name, dependencies, folder):
 
 def lines_of(words, environment=None):
     """What a run printed: times and nanoseconds by part, and the checksums by name."""
-    parts, checksums = {}, set()
+    parts, checksums = {}, {}
     printed = subprocess.run(words, stdout=subprocess.PIPE, text=True, check=True, env=environment).stdout
     for kind, name, *numbers in map(str.split, printed.splitlines()):
         if kind == "part":
             parts[name] = tuple(map(int, numbers))
-        else:
-            checksums.add((name, *numbers))
+        elif checksums.setdefault(name, numbers) != numbers:
+            sys.exit(f"a program's checksums of {name} differ")
     return parts, checksums
 
 
@@ -81,7 +81,7 @@ def best_parts(programs, repeats, environment=None):
         names = list(programs)
         for name in names[turn % 2 :] + names[: turn % 2]:
             parts, checksums = lines_of(programs[name], environment)
-            seen.add(frozenset(checksums))
+            seen.add(frozenset((figure, *value) for figure, value in checksums.items()))
             for part, figures in parts.items():
                 best[name][part] = min(figures, best[name].get(part, figures))
     if len(seen) != 1:
