@@ -51,5 +51,5 @@ run bad-inputs "$here/bad_inputs.py" "$ssidx" --english "$corpora/english.txt" -
 run refused-memory "$here/refused_memory.py" "$ssidx"
 run failing-calls "$here/failing_calls.py" "$ssidx"
 run guide "$here/guide.py" "$ssidx"
-run readme "$here/guide.py" "$ssidx" README.md
+run readme "$here/guide.py" "$ssidx" "$here/../README.md"
 exit $failed
