@@ -4,7 +4,7 @@
 -- one at most.
 use Rattle.std.proofs.Common.{◌≡◌, ℕ, zero, suc, ◌+◌, ◌-◌, ◌*◌, ◌<◌, ◌≤◌, Bool, true, false, Option, Some, None, List, [], ◌∷◌, ◌++◌, length, refl, sym, ap, ◌∙◌, subst, arith, add-one, length-append}
 use Rattle.std.specs.Prelude.{slice_get, is_some, if◌then◌else◌}
-use Rattle.std.specs.Option.{option_map}
+use Rattle.std.specs.Option.{option_map, option_map_or}
 use Rattle.std.proofs.lemmas.Option.{slice_get_within, same_Some}
 use Rattle.ss_base.specs.declared.ids.Event.{Event}
 use Rattle.ss_base.specs.declared.ids.Event.TheVariants as event
@@ -13,15 +13,11 @@ use Rattle.execution_definitions.specs.declared.call.Call.TheVariants.{Make, Mak
 use Rattle.execution_definitions.specs.declared.refusal.Refusal.{Refusal}
 use Rattle.execution_definitions.specs.Refusals.{breaks}
 use Rattle.execution_definitions.specs.Meanings.{Meaning, shape_of, shapes_of}
-use Rattle.interleavings.specs.Machines.{Entry, Core, MachineState, front_at, with_entry, without_front, least_busy, call_event, judged_event, taken_event, calls_taken, next_call, may_take_some, is_enabled, program_event, event_taken, after_event, after_schedule, initial_machine, event_by_rule, FollowsRule}
+use Rattle.interleavings.specs.Machines.{Entry, Core, MachineState, front_at, with_entry, without_front, least_busy, call_event, judged_event, taken_event, calls_taken, next_call, may_take_some, is_enabled, program_event, event_taken, after_event, after_schedule, initial_machine, event_by_rule, FollowsRule, IsReplay}
 use Rattle.schedule_core.specs.Theorem.{ReplaysAreOne}
+use Rattle.schedule_core.specs.Replayed.{waiting, gone_on, replayed, ReplaysAreComputed}
 
 module _ {A : Type 0} where
-  -- how much waits
-  abbrev pub waiting : List (List A) → ℕ
-  waiting [] = 0
-  waiting (entries ∷ lanes) = length entries + waiting lanes
-
   waiting-with_entry : (lane : ℕ) (entry : A) (lanes : List (List A)) →
       waiting (with_entry lane entry lanes) ≤ waiting lanes + 1
   waiting-with_entry zero entry [] = omega arith
@@ -77,6 +73,11 @@ still-none : (stop : Option Refusal) → stop ≡ None → still stop ≡ 1
 unfolding still
 still-none None is = refl
 still-none (Some refusal) is = absurd cc
+
+still-most : (stop : Option Refusal) → still stop ≤ 1
+unfolding still
+still-most None = omega arith
+still-most (Some refusal) = omega arith
 
 still-some : (refusal : Refusal) → still (Some refusal) ≡ 0
 unfolding still
@@ -328,6 +329,33 @@ module _ {C O R : Type 0} (m : Meaning C O R) where
         (by_which machine e (is_enabled m calls machine event.Program)
         (least_busy machine.core.lanes) is refl refl (events_left machine) left)
 
+    -- events that follow the rule to its end come to the computed one
+    follows_is : (k : ℕ) (machine : MachineState C O R) (events : List Event) →
+        FollowsRule m calls machine events → machine.next ≤ length calls →
+        events_left machine ≤ k → after_schedule m calls machine events ≡ gone_on m calls k machine
+    unfolding gone_on
+    follows_is zero machine [] follows within few = refl
+    follows_is (suc k) machine [] follows within few =
+        sym (ap (λ o.
+        option_map_or (λ e. gone_on m calls k (after_event m calls machine e)) o machine) follows)
+    follows_is zero machine (e ∷ rest) follows within few =
+        let less = events_left-less machine e within follows.0 in
+        absurd (omega (arith, less, few))
+    follows_is (suc k) machine (e ∷ rest) follows within few =
+        let less = events_left-less machine e within follows.0 in
+        follows_is k (after_event m calls machine e) rest follows.1
+        (within_event machine e (is_enabled m calls machine e) within)
+        (omega (arith, less, few))
+        ∙ sym (ap (λ o.
+        option_map_or (λ f. gone_on m calls k (after_event m calls machine f)) o machine) follows.0)
+
+    after_both : (schedule rest : List Event) (machine : MachineState C O R) →
+        after_schedule m calls machine (schedule ++ rest)
+        ≡ after_schedule m calls (after_schedule m calls machine schedule) rest
+    after_both [] rest machine = refl
+    after_both (e ∷ schedule) rest machine =
+        after_both schedule rest (after_event m calls machine e)
+
   -- every schedule has one replay
   pub replays_are_one : ReplaysAreOne m
   replays_are_one n calls schedule =
@@ -342,3 +370,14 @@ module _ {C O R : Type 0} (m : Meaning C O R) where
             ∙ ap (λ l. after_schedule m calls first (schedule ++ l))
             (one_end calls machine replay.by_rule ended.events replay.follows ended.follows);
       }
+
+  -- each comes to the computed end
+  pub replays_are_computed : ReplaysAreComputed m
+  replays_are_computed n calls schedule end_ replay =
+      let first = initial_machine m n in
+      let machine = after_schedule m calls first schedule in
+      let within = within_schedule calls schedule first (omega arith) in
+      let most = still-most machine.stop in
+      replay.is ∙ after_both calls schedule replay.by_rule first
+      ∙ follows_is calls (2 * length calls + waiting machine.core.lanes + 1) machine replay.by_rule
+      replay.follows within (omega (arith, most))

@@ -1,4 +1,5 @@
 pub mod Theorem
+pub mod Replayed
 pub mod Queues
 pub mod Stores
 pub mod Kept

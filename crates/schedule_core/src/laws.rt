@@ -1,5 +1,6 @@
 // The theorem of schedules, over definitions alone. There is nothing to run.
 
+ghost use Rattle.schedule_core.specs.Replayed.{ReplaysAreComputed};
 ghost use Rattle.schedule_core.specs.Theorem.{DrainIsByEvents, ReplaysAreOne, ReplaysGiveTheSame, SchedulesGiveTheSame};
 
 use class_laws::{Class, joins_in_any_order};
@@ -25,6 +26,12 @@ pub fn every_replay_gives_the_same<C: Class>()
 /// Under every schedule there is one replay: the rule comes to an end, and to no other.
 pub fn every_schedule_has_one_replay<C: Class>()
     ensures { ReplaysAreOne C.meaning }
+{}
+
+/// The end of that replay is a value, computed from the calls, the number of lanes and the
+/// schedule.
+pub fn every_replay_is_computed<C: Class>()
+    ensures { ReplaysAreComputed C.meaning }
 {}
 
 /// To drain a core is to take events of lanes, that of the least lane in which something waits first,

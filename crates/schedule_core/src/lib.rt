@@ -16,8 +16,8 @@ mod step;
 mod store;
 
 pub use laws::{
-    a_drain_is_by_events, every_replay_gives_the_same, every_schedule_gives_the_same,
-    every_schedule_has_one_replay,
+    a_drain_is_by_events, every_replay_gives_the_same, every_replay_is_computed,
+    every_schedule_gives_the_same, every_schedule_has_one_replay,
 };
 pub use machine::Machine;
 pub use replays::{Outcome, replay};
