@@ -1,8 +1,8 @@
 // That memory is found, and the orders of scripts worked out by hand. No clause says the first.
 use crate::{replay_script, shown_of};
 use schedule_core::{Outcome, replay};
-use script_lang::{Script, parse, parse_schedule};
-use ss_base::CallNo;
+use script_lang::{ParseFault, ScheduleStop, Script, parse, parse_schedule};
+use ss_base::{CallNo, Event, limits};
 use std::alloc::Global;
 use std::test::Fail;
 
@@ -50,16 +50,28 @@ fn are_numbers(order: &[CallNo], numbers: &[u64]) -> bool {
     order.iter().map(|call| call.0).eq(numbers.iter().copied())
 }
 
-fn parsed(alloc: Global, text: &str) -> Result<Script, Fail> {
-    Ok(parse(alloc, text.as_bytes())?)
+// The script of a text that is short enough.
+fn parsed(alloc: Global, text: &[u8]) -> Result<Script, ParseFault> {
+    if text.len() > limits::SCRIPT_BYTES {
+        return Err(ParseFault::OutOfMemory);
+    }
+    parse(alloc, text)
+}
+
+// The events of a schedule that is short enough.
+fn scheduled(alloc: Global, text: &[u8]) -> Result<Vec<Event>, ScheduleStop> {
+    if text.len() > limits::SCHEDULE_BYTES {
+        return Err(ScheduleStop::OutOfMemory);
+    }
+    parse_schedule(alloc, text)
 }
 
 #[test]
 fn a_schedule_orders_the_calls_and_shows_the_same(rt: HostRuntime) -> Result<(), Fail> {
     let alloc = rt.alloc();
-    for (text, lanes, schedule, shown, order) in REPLAYS {
-        let script = parsed(alloc, text)?;
-        let events = parse_schedule(alloc, schedule.as_bytes())?;
+    for &(text, lanes, schedule, shown, order) in &REPLAYS {
+        let script = parsed(alloc, text.as_bytes())?;
+        let events = scheduled(alloc, schedule.as_bytes())?;
         let given = replay_script(alloc, &script, lanes, &events)?;
         assert_eq!(rt;
             given.shown.text.as_slice(),
@@ -75,7 +87,7 @@ fn a_schedule_orders_the_calls_and_shows_the_same(rt: HostRuntime) -> Result<(),
 #[test]
 fn a_script_stops_where_it_breaks(rt: HostRuntime) -> Result<(), Fail> {
     let alloc = rt.alloc();
-    let script = parsed(alloc, "object x 5\nshow x\njoin\nshow x\n")?;
+    let script = parsed(alloc, b"object x 5\nshow x\njoin\nshow x\n")?;
     let calls = script.calls(alloc)?;
     let outcome: Outcome<_> = replay(alloc, calls, 2, &[])?;
     let shown = shown_of(alloc, &script, &outcome)?;
