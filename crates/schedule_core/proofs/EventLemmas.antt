@@ -15,7 +15,7 @@ use Rattle.execution_definitions.specs.Refusals.{breaks}
 use Rattle.execution_definitions.specs.Meanings.{Meaning, shape_of, shapes_of}
 use Rattle.execution_definitions.specs.Sequential.{reply_of}
 use Rattle.interleavings.specs.Machines.{Entry, Core, MachineState, front_at, call_event, effect_of, judged_event, taken, taken_event, lane_event, calls_taken, next_call, may_take_some, is_enabled, program_event, event_taken, after_event, least_busy, event_by_rule}
-use Rattle.schedule_core.proofs.RuleLemmas.{if_is, if_not}
+use Rattle.schedule_laws.proofs.RuleLemmas.{if_is, if_not}
 
 module _ {C O R : Type 0} where
   -- machines that are alike in each part

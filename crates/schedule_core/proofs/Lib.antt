@@ -1,11 +1,7 @@
 pub mod CallLemmas
-pub mod EnabledLemmas
 pub mod EventLemmas
-pub mod StandsAfterLemmas
-pub mod ReachedLemmas
 pub mod KeptLemmas
 pub mod PlaceLemmas
 pub mod QueueLemmas
 pub mod ReplayLemmas
-pub mod RuleLemmas
 pub mod StoreLemmas

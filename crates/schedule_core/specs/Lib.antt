@@ -1,5 +1,3 @@
-pub mod Theorem
-pub mod Replayed
 pub mod Queues
 pub mod Stores
 pub mod Kept

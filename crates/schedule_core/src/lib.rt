@@ -2,12 +2,12 @@
 //!
 //! A [`Machine`] takes the events of a program and of its delegates one at a time, in the order that
 //! its caller gives. [`replay`] takes a whole schedule of them, and goes on to the end by a fixed rule.
-//! Every call returns. The laws say that no schedule changes what a program leaves and is answered.
+//! Every call returns. The laws (`schedule_laws`) say that no schedule changes what a program leaves and
+//! is answered.
 #![tactic(auto)]
 
 mod calls;
 mod events;
-mod laws;
 mod machine;
 mod parts;
 mod queues;
@@ -15,10 +15,6 @@ mod replays;
 mod step;
 mod store;
 
-pub use laws::{
-    a_drain_is_by_events, every_replay_gives_the_same, every_replay_is_computed,
-    every_schedule_gives_the_same, every_schedule_has_one_replay,
-};
 pub use machine::Machine;
 pub use replays::{Outcome, replay};
 pub use step::Step;

@@ -8,12 +8,12 @@ ghost use Rattle.schedule_core.specs.Kept.{program_of, machine_of, IsKept};
 ghost use Rattle.schedule_core.specs.Outcomes.{GoesOnTo, IsOutcome};
 
 use crate::events::{event_by_rule, new_parts, take_event};
-use crate::laws::every_replay_gives_the_same;
 use crate::parts::Parts;
 use crate::store::Store;
 use class_laws::Class;
 use delegation::{Call, Reply};
 use execution_definitions::Refusal;
+use schedule_laws::every_replay_gives_the_same;
 use ss_base::{CallNo, Event, OutOfMemory};
 use std::alloc::Global;
 

@@ -1,12 +1,13 @@
 // A script under a given schedule.
 ghost use Rattle.std.specs.Prelude.{◌≡◌, ◌≤◌, IfOk, map};
 ghost use Rattle.execution_definitions.specs.Programs.{HasAnswered};
-ghost use Rattle.schedule_core.specs.Replayed.{replayed};
+ghost use Rattle.schedule_laws.specs.Replayed.{replayed};
 ghost use Rattle.script_lang.specs.Acts.{script_meaning};
 ghost use Rattle.script_lang.specs.ScriptCalls.{calls_of};
 ghost use Rattle.script_lang.specs.ScriptAnswers as answers;
 
-use schedule_core::{Outcome, every_replay_is_computed, replay};
+use schedule_core::{Outcome, replay};
+use schedule_laws::every_replay_is_computed;
 use script_lang::{Script, Shown, Word32, shown_by};
 use ss_base::{CallNo, Event, OutOfMemory};
 use std::alloc::Global;

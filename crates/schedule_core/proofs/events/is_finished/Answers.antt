@@ -8,7 +8,7 @@ use Rattle.schedule_core.specs.Kept.{program_of, machine_of}
 use Rattle.schedule_core.proofs.QueueLemmas.{empty_len, empty_nil}
 use Rattle.schedule_core.proofs.StoreLemmas.{all_empty-map}
 use Rattle.schedule_core.proofs.PlaceLemmas.{none_at, none_left}
-use Rattle.schedule_core.proofs.EnabledLemmas.{spent-finished, finished-spent}
+use Rattle.schedule_laws.proofs.EnabledLemmas.{spent-finished, finished-spent}
 use Rattle.schedule_core.proofs.events.is_finished.Goals as goal
 
 some_none : {A : Type 0} (given : Option A) → is_some given ≡ true → given ≡ None → ⊥

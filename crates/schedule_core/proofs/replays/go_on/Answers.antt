@@ -3,7 +3,7 @@ use Rattle.interleavings.specs.Machines.{after_event, event_by_rule}
 use Rattle.schedule_core.specs.Kept.{program_of, machine_of}
 use Rattle.schedule_core.proofs.KeptLemmas.{taken_within}
 use Rattle.schedule_core.proofs.ReplayLemmas.{goes_on_from}
-use Rattle.schedule_core.proofs.RuleLemmas.{events_left, events_left-less}
+use Rattle.schedule_laws.proofs.RuleLemmas.{events_left, events_left-less}
 use Rattle.schedule_core.proofs.replays.go_on.Goals as goal
 
 pub loop-e-preserved : goal.loop-e-preserved

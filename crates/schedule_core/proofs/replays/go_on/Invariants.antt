@@ -2,7 +2,7 @@ use Rattle.std.proofs.Common.{◌≡◌}
 use Rattle.interleavings.specs.Machines.{MachineState}
 use Rattle.schedule_core.specs.Kept.{program_of, machine_of, IsKept}
 use Rattle.schedule_core.specs.Outcomes.{GoesOnTo}
-use Rattle.schedule_core.proofs.RuleLemmas.{events_left}
+use Rattle.schedule_laws.proofs.RuleLemmas.{events_left}
 use Rattle.schedule_core.proofs.replays.go_on.Given as goal
 
 -- an end to which the machine goes on from here is one to which it went on from the start

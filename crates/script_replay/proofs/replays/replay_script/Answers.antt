@@ -1,5 +1,5 @@
 use Rattle.std.proofs.Common.{◌∙◌, ap}
-use Rattle.schedule_core.specs.Replayed.{replayed}
+use Rattle.schedule_laws.specs.Replayed.{replayed}
 use Rattle.script_lang.specs.Acts.{script_meaning}
 use Rattle.script_replay.proofs.replays.replay_script.Goals as goal
 

@@ -1,7 +1,7 @@
 // The theorem of schedules, over definitions alone. There is nothing to run.
 
-ghost use Rattle.schedule_core.specs.Replayed.{ReplaysAreComputed};
-ghost use Rattle.schedule_core.specs.Theorem.{DrainIsByEvents, ReplaysAreOne, ReplaysGiveTheSame, SchedulesGiveTheSame};
+ghost use Rattle.schedule_laws.specs.Replayed.{ReplaysAreComputed};
+ghost use Rattle.schedule_laws.specs.Theorem.{DrainIsByEvents, ReplaysAreOne, ReplaysGiveTheSame, SchedulesGiveTheSame};
 
 use class_laws::{Class, joins_in_any_order};
 

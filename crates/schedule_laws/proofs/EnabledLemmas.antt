@@ -9,7 +9,7 @@ use Rattle.execution_definitions.specs.declared.refusal.Refusal.{Refusal}
 use Rattle.execution_definitions.specs.Held.{last_set}
 use Rattle.execution_definitions.specs.Meanings.{Meaning, shapes_of}
 use Rattle.interleavings.specs.Machines.{Core, MachineState, is_empty, front_at, is_idle_for, may_take, calls_taken, next_call, may_take_some, IsFinished}
-use Rattle.schedule_core.proofs.StandsAfterLemmas.{all_idle}
+use Rattle.schedule_laws.proofs.StandsAfterLemmas.{all_idle}
 
 module _ {A : Type 0} where
   -- where no lane has a front nothing waits

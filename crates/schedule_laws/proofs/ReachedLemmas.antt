@@ -22,9 +22,9 @@ use Rattle.execution_definitions.proofs.programs.SequentialLemmas.{shapes_of-pus
 use Rattle.execution_definitions.proofs.programs.ProgramsLemmas.{sound_front-sound, sound_front-at}
 use Rattle.interleavings.proofs.programs.OperatedLemmas.{JoinsInAnyOrder}
 use Rattle.interleavings.proofs.machines.DrainLemmas.{EachEntry, EachLane, nothing_done}
-use Rattle.schedule_core.specs.Theorem.{IsAtEnd, GivesTheSame, SchedulesGiveTheSame, ReplaysGiveTheSame, DrainIsByEvents}
-use Rattle.schedule_core.proofs.EnabledLemmas.{no_fronts, may_take-empty}
-use Rattle.schedule_core.proofs.StandsAfterLemmas.{IsHeldIn, StandsAfter, stands_after-taken, stands_after-call, reply_same}
+use Rattle.schedule_laws.specs.Theorem.{IsAtEnd, GivesTheSame, SchedulesGiveTheSame, ReplaysGiveTheSame, DrainIsByEvents}
+use Rattle.schedule_laws.proofs.EnabledLemmas.{no_fronts, may_take-empty}
+use Rattle.schedule_laws.proofs.StandsAfterLemmas.{IsHeldIn, StandsAfter, stands_after-taken, stands_after-call, reply_same}
 
 -- ---- places of a list
 

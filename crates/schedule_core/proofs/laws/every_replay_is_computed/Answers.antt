@@ -1,5 +1,0 @@
-use Rattle.schedule_core.proofs.RuleLemmas.{replays_are_computed}
-use Rattle.schedule_core.proofs.laws.every_replay_is_computed.Goals as goal
-
-pub returns : goal.returns
-returns g c = replays_are_computed g.C.Class.meaning

@@ -1,0 +1,4 @@
+pub mod StandsAfterLemmas
+pub mod EnabledLemmas
+pub mod ReachedLemmas
+pub mod RuleLemmas
