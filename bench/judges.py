@@ -17,7 +17,9 @@ from measure import HERE, is_within
 from parts import best_parts, load, parser_of, rattle_program, room
 
 SOURCES = pathlib.Path(HERE) / "judges"
-DEPENDENCIES = "ss_base execution_definitions class_laws serializer delegation script_lang history schedule_core"
+DEPENDENCIES = (
+    "ss_base execution_definitions class_laws serializer delegation script_lang history legal_merges schedule_core"
+)
 SHARES = (1, 2, 4)  # of the least size, at the end of a part's name
 LINEAR = {
     "check": "check of logs of 64 lanes, 1, 2 and 4 million runs",

@@ -1,11 +1,1 @@
-pub mod OrderLemmas
-pub mod BegunLemmas
-pub mod PlaceLemmas
-pub mod MoveLemmas
-pub mod MergesLemmas
 pub mod LogsLemmas
-pub mod turns
-pub mod PicksLemmas
-pub mod JudgedLemmas
-pub mod ReplayLemmas
-pub mod OrdersLemmas

@@ -1,5 +1,0 @@
-//! Tests of the judges of an execution, on a small program.
-#![tactic(auto)]
-
-#[cfg(test)]
-mod tests;

@@ -1,0 +1,10 @@
+pub mod EndLemmas
+pub mod WayLemmas
+pub mod FirstLemmas
+pub mod StepLemmas
+pub mod TableLemmas
+pub mod TakeLemmas
+pub mod PicksLemmas
+pub mod JudgedLemmas
+pub mod ReplayLemmas
+pub mod OrdersLemmas
