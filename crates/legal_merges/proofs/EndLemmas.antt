@@ -1,16 +1,15 @@
 -- Between a delegation and a later call of aggregation stands an end, which comes after the one and
 -- before the other.
-use Rattle.std.proofs.Common.{◌≡◌, ℕ, suc, ◌+◌, ◌<◌, ◌≤◌, Bool, true, false, Option, Some, None, List, [], ◌∷◌, ◌++◌, length, take, refl, sym, ap, ◌∙◌, subst, arith, append-nil, append_assoc, length-append}
-use Rattle.std.specs.Prelude.{slice_get, option_and_then}
+use Rattle.std.proofs.Common.{◌≡◌, ℕ, suc, ◌+◌, ◌<◌, Bool, true, false, Some, None, List, [], ◌∷◌, ◌++◌, length, take, refl, sym, ap, ◌∙◌, subst, arith, append-nil, append_assoc, length-append}
 use Rattle.std.proofs.Math.Seq.{take-append_seam}
-use Rattle.execution_definitions.specs.Shapes.{Shape, make, make_fixed, begin, delegate, write, get, end, total, is_end}
+use Rattle.execution_definitions.specs.Shapes.{Shape, make, make_fixed, begin, delegate, write, get, end, total}
 use Rattle.execution_definitions.specs.Epochs.{isolating}
 use Rattle.execution_definitions.specs.Refusals.{breaks}
 use Rattle.execution_definitions.specs.Soundness.{IsSound, refusal_at}
 use Rattle.execution_definitions.proofs.lists.ListLemmas.{slice_get-append_seam}
 use Rattle.execution_definitions.proofs.shapes.EpochsLemmas.{IsWithin, isolating-within, isolating-begin}
 use Rattle.execution_definitions.proofs.shapes.LawsLemmas.{first_break_is_least}
-use Rattle.interleavings.specs.Merges.{lane_of_call, lane_at, waits_for_lane, must_stand_before}
+use Rattle.interleavings.specs.Merges.{lane_of_call, lane_at, must_stand_before}
 use Rattle.interleavings.proofs.shapes.HoldingLemmas.{accepted}
 use Rattle.merge_laws.proofs.PlaceLemmas.{split_at, no_lane, lane_here, waits_here}
 

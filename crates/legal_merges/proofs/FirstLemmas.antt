@@ -1,5 +1,5 @@
 -- The next place of each turn, found from the last call to the first.
-use Rattle.std.proofs.Common.{◌≡◌, ℕ, zero, suc, ◌+◌, ◌<◌, ◌≤◌, ◌≢◌, Bool, true, false, Option, Some, None, List, [], ◌∷◌, ◌++◌, length, take, refl, sym, ap, ◌∙◌, subst, arith, set}
+use Rattle.std.proofs.Common.{◌≡◌, ℕ, ◌+◌, ◌<◌, ◌≤◌, ◌≢◌, Bool, true, false, Option, Some, List, [], ◌∷◌, ◌++◌, length, refl, sym, ap, ◌∙◌, subst, arith, set}
 use Rattle.std.specs.Prelude.{◌==◌, nat_lt, slice_get}
 use Rattle.std.proofs.lemmas.Bool.{eqb-true}
 use Rattle.std.proofs.lemmas.Bool.Decides.{nat_tests}
@@ -9,8 +9,8 @@ use Rattle.execution_definitions.specs.Shapes.{Shape}
 use Rattle.interleavings.specs.Merges.{lane_at}
 use Rattle.legal_merges.specs.declared.step.Step.{Step}
 use Rattle.merge_laws.specs.Fronts.{IsBegun}
-use Rattle.legal_merges.specs.kept.Turns.{turn_of, IsTable, IsFirst, IsNext, IsLinked, AreNexts, IsOnWay}
-use Rattle.legal_merges.proofs.WayLemmas.{found, get_set_same, get_set_other, some_same, turn_of-injective, below, no_later}
+use Rattle.legal_merges.specs.kept.Turns.{turn_of, IsTable, IsFirst, IsNext, IsLinked, AreNexts}
+use Rattle.legal_merges.proofs.WayLemmas.{get_set_same, get_set_other, some_same, turn_of-injective, below}
 
 module _ (n : ℕ) (calls : List Shape) where
   -- from a place on, the first place of each turn, and after each place that of its turn

@@ -1,13 +1,11 @@
 -- An order, judged by its places one after the other.
-use Rattle.std.proofs.Common.{◌≡◌, ℕ, zero, suc, ◌+◌, ◌<◌, ◌≤◌, Bool, true, false, List, [], ◌∷◌, ◌++◌, length, take, drop, refl, sym, ap, ◌∙◌, subst, arith, append-nil}
-use Rattle.std.specs.Prelude.{nat_lt}
-use Rattle.std.proofs.lemmas.Bool.Decides.{nat_tests}
+use Rattle.std.proofs.Common.{◌≡◌, ℕ, ◌+◌, ◌<◌, Bool, true, false, List, [], ◌∷◌, ◌++◌, length, take, drop, refl, sym, subst, arith}
 use Rattle.std.proofs.lemmas.List.{take-append-drop, take_all}
 use Rattle.execution_definitions.specs.Shapes.{Shape}
-use Rattle.interleavings.specs.Merges.{is_among, times_among, IsLegal, BeginsMerge, IsNoMergeAt}
+use Rattle.interleavings.specs.Merges.{is_among, IsLegal, BeginsMerge, IsNoMergeAt}
 use Rattle.merge_laws.specs.Fronts.{IsBegun}
 use Rattle.legal_merges.specs.kept.Judging.{HasAll}
-use Rattle.merge_laws.proofs.BegunLemmas.{false_true, absent_times, present_times, begun_goes_on, front_begun}
+use Rattle.merge_laws.proofs.BegunLemmas.{absent_times, present_times, begun_goes_on, front_begun}
 
 module _ (n : ℕ) (calls : List Shape) where
   -- places with all places that begin a legal merge are one

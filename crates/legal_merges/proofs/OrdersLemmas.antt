@@ -1,12 +1,11 @@
 -- Orders that are made pick by pick, or judged place by place, with what may come next.
-use Rattle.std.proofs.Common.{◌≡◌, ℕ, zero, suc, ◌+◌, ◌<◌, ◌≤◌, Option, Some, None, List, [], ◌∷◌, ◌++◌, length, take, drop, map, refl, sym, ap, ◌∙◌, subst, arith}
+use Rattle.std.proofs.Common.{◌≡◌, ℕ, zero, suc, ◌+◌, ◌≤◌, Some, List, [], ◌∷◌, ◌++◌, length, take, drop, refl, sym, ap, ◌∙◌, subst, arith}
 use Rattle.std.specs.Prelude.{slice_get}
 use Rattle.std.proofs.lemmas.List.{take_all, length-map, map-append, take-append-drop, length-take-le}
 use Rattle.std.proofs.lemmas.Option.{slice_get_within}
 use Rattle.ss_base.specs.declared.ids.CallNo.{CallNo}
 use Rattle.ss_base.specs.declared.ids.Event.{Event}
 use Rattle.execution_definitions.specs.Shapes.{Shape}
-use Rattle.interleavings.specs.Merges.{is_among}
 use Rattle.legal_merges.specs.declared.turns.Turns.{Turns}
 use Rattle.merge_laws.specs.Fronts.{IsBegun}
 use Rattle.legal_merges.specs.Picks.{lane_picked, next_place, with_pick, picked}

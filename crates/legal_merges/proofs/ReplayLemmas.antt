@@ -1,5 +1,5 @@
 -- Calls, applied in an order, each moved out of its place.
-use Rattle.std.proofs.Common.{◌≡◌, ℕ, zero, suc, ◌+◌, ◌<◌, ◌≤◌, Bool, true, false, cond, ◌||◌, Option, Some, None, List, [], ◌∷◌, ◌++◌, length, take, drop, get_or, fold, map, refl, sym, ap, ◌∙◌, subst, arith, append-nil, set}
+use Rattle.std.proofs.Common.{◌≡◌, ℕ, zero, suc, ◌+◌, ◌<◌, ◌≤◌, Bool, true, false, cond, ◌||◌, Option, Some, None, List, [], ◌∷◌, ◌++◌, length, take, drop, get_or, fold, refl, sym, ap, ◌∙◌, subst, arith, set}
 use Rattle.std.specs.Prelude.{◌==◌, nat_lt, slice_get, option_and_then}
 use Rattle.std.specs.Option.{option_map}
 use Rattle.std.proofs.lemmas.Bool.Decides.{nat_tests}
@@ -12,13 +12,13 @@ use Rattle.ss_base.specs.declared.ids.ObjectId.{ObjectId}
 use Rattle.execution_definitions.specs.declared.refusal.Refusal.{Refusal}
 use Rattle.execution_definitions.specs.declared.call.Call.{Call}
 use Rattle.execution_definitions.specs.declared.call.Call.TheVariants.{Make, MakeFixed, Begin, Delegate, Write, Get, End, Total}
-use Rattle.execution_definitions.specs.Shapes.{Shape, delegate}
+use Rattle.execution_definitions.specs.Shapes.{Shape}
 use Rattle.execution_definitions.specs.Refusals.{breaks, refuse_if, if_reading, self_read}
-use Rattle.execution_definitions.specs.Soundness.{IsSound, refusal_at}
+use Rattle.execution_definitions.specs.Soundness.{refusal_at}
 use Rattle.execution_definitions.specs.Meanings.{Meaning, number_given, shape_of, shapes_of}
 use Rattle.execution_definitions.specs.Sequential.{State, initial_state, state_after}
 use Rattle.execution_definitions.proofs.shapes.LawsLemmas.{first_break_is_least}
-use Rattle.interleavings.specs.Merges.{is_among, times_among, IsLegal, state_after_place}
+use Rattle.interleavings.specs.Merges.{is_among, times_among, state_after_place}
 use Rattle.interleavings.proofs.shapes.HoldingLemmas.{accepted}
 use Rattle.legal_merges.specs.Merging.{IsMerge, places}
 use Rattle.legal_merges.specs.kept.Judging.{IsOther, ReadsAnother}

@@ -1,15 +1,14 @@
 -- What the turns say of a place, of a turn, and of the end.
-use Rattle.std.proofs.Common.{◌≡◌, ℕ, ◌+◌, ◌<◌, ◌≤◌, Bool, true, false, Some, None, List, [], ◌∷◌, ◌++◌, length, refl, sym, ap, ◌∙◌, subst, arith, append-nil, set}
+use Rattle.std.proofs.Common.{◌≡◌, ℕ, ◌<◌, Bool, true, false, Some, None, List, [], ◌∷◌, ◌++◌, length, sym, ◌∙◌, subst, arith, set}
 use Rattle.std.specs.Prelude.{slice_get}
 use Rattle.std.specs.Bool.{OnTrue, OnFalse}
 use Rattle.std.proofs.lemmas.Option.{slice_get_within}
 use Rattle.execution_definitions.specs.Shapes.{Shape}
 use Rattle.execution_definitions.proofs.lists.ListLemmas.{past_none}
-use Rattle.interleavings.specs.Merges.{times_among, lane_at}
 use Rattle.legal_merges.specs.declared.step.Step.{Step}
 use Rattle.legal_merges.specs.declared.turns.Turns.{Turns}
 use Rattle.merge_laws.specs.Fronts.{IsBegun}
-use Rattle.legal_merges.specs.kept.Turns.{AreTurns, IsFirst, MayCome, AreNexts, IsOnWay}
+use Rattle.legal_merges.specs.kept.Turns.{AreTurns, MayCome, AreNexts, IsOnWay}
 use Rattle.legal_merges.specs.kept.Judging.{AreDone, AreAllDone, IsNextOf, IsOnSomeWay}
 use Rattle.merge_laws.proofs.OrderLemmas.{times-here}
 use Rattle.legal_merges.proofs.WayLemmas.{begun_may_come, begun-push, nexts-push, next_of, next_past, all_done, not_all_done}

@@ -1,7 +1,6 @@
 -- What may come next after places that begin a legal merge, and what is next after that.
-use Rattle.std.proofs.Common.{◌≡◌, ℕ, zero, suc, ◌+◌, ◌<◌, ◌≤◌, ◌≢◌, Bool, true, false, ◌||◌, ◌&&◌, Option, Some, None, List, [], ◌∷◌, ◌++◌, length, take, refl, sym, ap, ◌∙◌, subst, arith, append-nil, ⊎_elim, set, get_or}
+use Rattle.std.proofs.Common.{◌≡◌, ℕ, zero, suc, ◌+◌, ◌<◌, ◌≤◌, ◌≢◌, Bool, true, false, ◌||◌, ◌&&◌, Option, Some, None, List, [], ◌∷◌, ◌++◌, length, take, refl, sym, ap, ◌∙◌, subst, arith, append-nil, ⊎_elim, set}
 use Rattle.std.specs.Prelude.{◌==◌, nat_lt, slice_get, ◌⊎◌}
-use Rattle.std.specs.List.{list_any}
 use Rattle.std.proofs.lemmas.Bool.{eqb-true}
 use Rattle.std.proofs.lemmas.Bool.Decides.{nat_tests}
 use Rattle.std.proofs.lemmas.List.{length-set}
@@ -10,15 +9,15 @@ use Rattle.std.proofs.lemmas.Option.{slice_get_within}
 use Rattle.execution_definitions.specs.Shapes.{Shape, make, make_fixed, begin, delegate, write, get, end, total}
 use Rattle.execution_definitions.specs.Sets.{set_of, lane_of_set}
 use Rattle.execution_definitions.specs.Epochs.{isolating}
-use Rattle.interleavings.specs.Merges.{lane_of_call, lane_at, waits_for, waits_for_lane, must_stand_before, is_among, times_among}
+use Rattle.interleavings.specs.Merges.{lane_of_call, lane_at, waits_for_lane, must_stand_before, is_among, times_among}
 use Rattle.legal_merges.specs.declared.step.Step.{Step}
 use Rattle.merge_laws.specs.Fronts.{IsBegun}
-use Rattle.legal_merges.specs.kept.Turns.{turn_of, covers, IsStepAfter, IsTable, IsFirst, IsNext, MayCome, IsLinked, AreNexts}
+use Rattle.legal_merges.specs.kept.Turns.{turn_of, covers, IsStepAfter, IsTable, IsFirst, IsNext, MayCome, AreNexts}
 use Rattle.legal_merges.specs.kept.Judging.{AreDone, HasAll, IsNextOf}
-use Rattle.merge_laws.proofs.OrderLemmas.{times-between, times-here, times-other, part_among, present}
+use Rattle.merge_laws.proofs.OrderLemmas.{times-here, times-other, part_among}
 use Rattle.merge_laws.proofs.PlaceLemmas.{both}
 use Rattle.merge_laws.proofs.BegunLemmas.{false_true, stands, absent_times, present_times, earlier_place}
-use Rattle.legal_merges.proofs.EndLemmas.{HasEndBetween, end_between}
+use Rattle.legal_merges.proofs.EndLemmas.{end_between}
 
 -- what stands at a place
 pub found : {X : Type 0} (xs : List X) (i : ℕ) → i < length xs → (x : X) × (slice_get xs i ≡ Some x)

@@ -13,9 +13,9 @@ use Rattle.execution_definitions.specs.declared.call.Call.TheVariants.{Make, Mak
 use Rattle.execution_definitions.specs.declared.refusal.Refusal.{Refusal}
 use Rattle.execution_definitions.specs.Refusals.{breaks}
 use Rattle.execution_definitions.specs.Meanings.{Meaning, shape_of, shapes_of}
-use Rattle.interleavings.specs.Machines.{Entry, Core, MachineState, front_at, with_entry, without_front, least_busy, call_event, judged_event, taken_event, calls_taken, next_call, may_take_some, is_enabled, program_event, event_taken, after_event, after_schedule, initial_machine, event_by_rule, FollowsRule, IsReplay}
+use Rattle.interleavings.specs.Machines.{Entry, Core, MachineState, front_at, with_entry, without_front, least_busy, call_event, judged_event, taken_event, calls_taken, next_call, may_take_some, is_enabled, program_event, event_taken, after_event, after_schedule, initial_machine, event_by_rule, FollowsRule}
 use Rattle.schedule_laws.specs.Theorem.{ReplaysAreOne}
-use Rattle.schedule_laws.specs.Replayed.{waiting, gone_on, replayed, ReplaysAreComputed}
+use Rattle.schedule_laws.specs.Replayed.{waiting, gone_on, ReplaysAreComputed}
 
 module _ {A : Type 0} where
   waiting-with_entry : (lane : ℕ) (entry : A) (lanes : List (List A)) →

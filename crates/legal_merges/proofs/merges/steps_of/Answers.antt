@@ -1,11 +1,11 @@
-use Rattle.std.proofs.Common.{rules, ◌≡◌, ◌≤◌, ◌∙◌, Some, Err, length, refl, sym, ap, subst, take, arith}
+use Rattle.std.proofs.Common.{◌≡◌, ◌∙◌, Err, length, refl, subst, take}
 use Rattle.std.proofs.lemmas.List.{length-map}
 use Rattle.std.proofs.lemmas.Option.{slice_get_read}
 use Rattle.legal_merges.specs.declared.step.Step.{Step}
 use Rattle.execution_definitions.specs.Meanings.{shape_of, shapes_of}
 use Rattle.execution_definitions.specs.Refusals.{breaks}
 use Rattle.legal_merges.specs.kept.Judging.{AnswersFault}
-use Rattle.legal_merges.proofs.TableLemmas.{AreStepsTo, shape_of_item, steps-push, steps-all, steps-broken}
+use Rattle.legal_merges.proofs.TableLemmas.{shape_of_item, steps-push, steps-all, steps-broken}
 use Rattle.legal_merges.proofs.merges.steps_of.Goals as goal
 
 -- the next call is refused

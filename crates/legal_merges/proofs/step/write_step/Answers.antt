@@ -1,4 +1,4 @@
-use Rattle.std.proofs.Common.{rules, refl}
+use Rattle.std.proofs.Common.{refl}
 use Rattle.execution_definitions.specs.Shapes.{write}
 use Rattle.legal_merges.proofs.StepLemmas.{step-write}
 use Rattle.legal_merges.proofs.step.write_step.Goals as goal

@@ -1,4 +1,4 @@
-use Rattle.std.proofs.Common.{rules, ◌≡◌, ◌+◌, ◌-◌, ◌<◌, length, refl, subst, arith}
+use Rattle.std.proofs.Common.{◌≡◌, ◌+◌, ◌-◌, ◌<◌, length, refl, subst, arith}
 use Rattle.std.proofs.lemmas.Option.{slice_get_read}
 use Rattle.legal_merges.proofs.FirstLemmas.{AreFirsts, firsts-step, first_linked, first_nexts, first_begun}
 use Rattle.legal_merges.proofs.turns.first_turns.Goals as goal
