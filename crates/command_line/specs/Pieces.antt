@@ -1,6 +1,6 @@
 -- What do the words behind a command say?
 --
--- Some are options, of which each has a value: the next word, or what stands behind `=`. All others
+-- Some are options. Most of these have a value: the next word, or what stands behind `=`. All others
 -- are words of no option, and so are all behind `--`.
 use Rattle.std.specs.Prelude.{ℕ, Bool, true, false, not, ◌==◌, nat_le, if◌then◌else◌}
 use Rattle.std.specs.Prelude.{List, [], ◌∷◌, length, codes, Some, None}
@@ -11,11 +11,11 @@ use Rattle.std.specs.Str.{bytes_eq}
 use Rattle.command_line.specs.declared.setting.Setting.{Setting}
 use Rattle.command_line.specs.declared.setting.Setting.TheVariants as setting
 
--- a word, and the option whose value it is, if it is one's
+-- a word, and the option whose value it is, or which it names, if it has no value
 abbrev pub Piece : Type 0
 Piece = Option Setting × List ℕ
 
--- the option of this name
+-- the option of this name that has a value
 unfoldable pub setting_named : List ℕ → Option Setting
 setting_named word =
     if bytes_eq word (codes "--delegates") then Some setting.Delegates
@@ -23,6 +23,13 @@ setting_named word =
     else (if bytes_eq word (codes "--ring") then Some setting.Ring
     else (if bytes_eq word (codes "--stop") then Some setting.Stop
     else None)))
+
+-- the option of this name that has no value
+unfoldable pub flag_named : List ℕ → Option Setting
+flag_named word =
+    if bytes_eq word (codes "--trace") then Some setting.Trace
+    else (if bytes_eq word (codes "--order") then Some setting.Order
+    else None)
 
 -- the word isn't empty, and begins with `-` (byte 45) only where it is that
 abbrev pub is_plain : List ℕ → Bool
@@ -62,7 +69,8 @@ pieces (word ∷ words) None =
     if is_plain word then and_piece (None, word) (pieces words None)
     else (if bytes_eq word (codes "--") then words_behind_end words
     else option_map_or (λ owner. pieces words (Some owner)) (setting_named word)
-    (option_map_or (λ piece. and_piece piece (pieces words None)) (joined word) None))
+    (option_map_or (λ owner. and_piece (Some owner, word) (pieces words None)) (flag_named word)
+    (option_map_or (λ piece. and_piece piece (pieces words None)) (joined word) None)))
 
 -- whether both are the same option, or both are none
 abbrev pub is_same_owner : Option Setting → Option Setting → Bool
@@ -71,9 +79,11 @@ is_same_owner (Some setting.Delegates) (Some setting.Delegates) = true
 is_same_owner (Some setting.Mode) (Some setting.Mode) = true
 is_same_owner (Some setting.Ring) (Some setting.Ring) = true
 is_same_owner (Some setting.Stop) (Some setting.Stop) = true
+is_same_owner (Some setting.Trace) (Some setting.Trace) = true
+is_same_owner (Some setting.Order) (Some setting.Order) = true
 is_same_owner _ _ = false
 
--- the values of an option, or the words of none, in their order
+-- the words of an option's pieces, or those of none, in their order
 unfoldable pub words_of : Option Setting → List Piece → List (List ℕ)
 words_of owner [] = []
 words_of owner (piece ∷ pieces) =

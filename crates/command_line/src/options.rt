@@ -1,9 +1,11 @@
 // The options of a command.
 ghost use Rattle.std.specs.Prelude.{◌≡◌, ◌≤◌, List, ◌∷◌, map, string_bytes, None, Some, IfSome};
-ghost use Rattle.command_line.specs.CommandLine.{CanBeRun};
 ghost use Rattle.std.specs.Option.{option_copied, option_map, option_and_then, option_map_or};
 ghost use Rattle.std.specs.Result.{result_ok};
-ghost use Rattle.command_line.specs.Options.{mode_named, how_of, said_by};
+ghost use Rattle.ss_base.specs.declared.limits.TheConstants as limits;
+ghost use Rattle.command_line.specs.CommandLine.{CanBeRun};
+ghost use Rattle.command_line.specs.CommandLine.{suits_index, suits_script, suits_replay, suits_gen};
+ghost use Rattle.command_line.specs.Options.{mode_named, delegates_in, how_in, said_by};
 ghost use Rattle.command_line.specs.Numbers.{number_in};
 ghost use Rattle.command_line.specs.Pieces as pieces;
 ghost use Rattle.command_line.specs.kept.Given.{given_in, given_behind, nothing_given, one_more};
@@ -12,18 +14,13 @@ ghost use Rattle.command_line.specs.kept.Rests.{piece_of, IsSaid};
 use crate::numbers::number_in;
 use crate::pieces::{Piece, Rest, Usage};
 use crate::setting::{Mode, Setting, mode_named};
+use ss_base::limits;
 
 /// How many delegates there are where nothing else is said.
 const DELEGATES: u32 = 4;
 
-/// How many delegates there may be.
-const MOST_DELEGATES: u32 = 64;
-
 /// How many messages a lane holds where nothing else is said.
 const RING: u32 = 256;
-
-/// How many messages a lane may hold.
-const MOST_RING: u32 = 4096;
 
 /// How a command is run.
 #[derive(Clone, Copy)]
@@ -33,21 +30,23 @@ pub(crate) struct How {
     pub ring: u32,
 }
 
-/// The value of each option, where it is given.
+/// The options that are given, each by its value; one that has none, by its name.
 #[derive(Clone, Copy)]
-struct Options<'a> {
+pub(crate) struct Options<'a> {
     delegates: Option<&'a str>,
     mode: Option<&'a str>,
     ring: Option<&'a str>,
-    stop: Option<&'a str>,
+    pub stop: Option<&'a str>,
+    pub trace: Option<&'a str>,
+    pub order: Option<&'a str>,
 }
 
-// The value of an option that may have one already, which is usage.
-fn one_more<'a>(before: Option<&'a str>, value: &'a str) -> Option<Option<&'a str>>
-    ensures { option_map option_copied result ≡ one_more (option_copied before.entry) value.now }
+// The word of an option that may have one already, which is usage.
+fn one_more<'a>(before: Option<&'a str>, word: &'a str) -> Option<Option<&'a str>>
+    ensures { option_map option_copied result ≡ one_more (option_copied before.entry) word.now }
 {
     match before {
-        None => Some(Some(value)),
+        None => Some(Some(word)),
         Some(_) => None,
     }
 }
@@ -62,6 +61,8 @@ impl<'a> Options<'a> {
             mode: None,
             ring: None,
             stop: None,
+            trace: None,
+            order: None,
         }
     }
 
@@ -90,6 +91,14 @@ impl<'a> Options<'a> {
                 stop: one_more(self.stop, word)?,
                 ..self
             }),
+            Some(Setting::Trace) => Some(Options {
+                trace: one_more(self.trace, word)?,
+                ..self
+            }),
+            Some(Setting::Order) => Some(Options {
+                order: one_more(self.order, word)?,
+                ..self
+            }),
         }
     }
 
@@ -110,19 +119,55 @@ impl<'a> Options<'a> {
         }
     }
 
-    // How the command is run, with what holds where an option isn't given.
-    fn how(&self) -> Option<How>
-        ensures value { result ≡ how_of
-            (option_map_or (number_in 0 64) (given_in self.now).delegates (Some 4))
-            (option_map_or mode_named (given_in self.now).mode (Some Mode.Lanes))
-            (option_map_or (number_in 1 4096) (given_in self.now).ring (Some 256)) }
+    /// How many delegates there are: no fewer than the command takes.
+    pub(crate) fn delegates(&self, least: u32) -> Option<u32>
+        requires { least ≤ 1 }
+        ensures value { result ≡ delegates_in least (given_in self.now) }
+        ensures within { IfSome result (λ delegates.
+            (least ≤ delegates) × (delegates ≤ limits.DELEGATES)) }
+    {
+        number_or(DELEGATES, least, limits::DELEGATES, self.delegates)
+    }
+
+    /// How the command is run, with what holds where an option isn't given.
+    pub(crate) fn how(&self) -> Option<How>
+        ensures value { result ≡ how_in (given_in self.now) }
         ensures can { IfSome result (λ how. CanBeRun how.delegates how.ring) }
     {
         Some(How {
-            delegates: number_or(DELEGATES, 0, MOST_DELEGATES, self.delegates)?,
+            delegates: self.delegates(0)?,
             mode: mode_or(Mode::Lanes, self.mode)?,
-            ring: number_or(RING, 1, MOST_RING, self.ring)?,
+            ring: number_or(RING, 1, limits::RING, self.ring)?,
         })
+    }
+
+    /// Whether each option that is given is one of `index`.
+    pub(crate) fn suit_index(&self) -> bool
+        ensures { result ≡ suits_index (given_in self.now) }
+    {
+        self.trace.is_none() && self.order.is_none()
+    }
+
+    /// Whether each option that is given is one of `script`.
+    pub(crate) fn suit_script(&self) -> bool
+        ensures { result ≡ suits_script (given_in self.now) }
+    {
+        self.stop.is_none() && self.order.is_none()
+    }
+
+    /// Whether each option that is given is one of `replay`.
+    pub(crate) fn suit_replay(&self) -> bool
+        ensures { result ≡ suits_replay (given_in self.now) }
+    {
+        (self.mode.is_none() && self.ring.is_none())
+            && (self.stop.is_none() && self.trace.is_none())
+    }
+
+    /// Whether each option that is given is one of `gen`.
+    pub(crate) fn suit_gen(&self) -> bool
+        ensures { result ≡ suits_gen (given_in self.now) }
+    {
+        self.stop.is_none() && (self.trace.is_none() && self.order.is_none())
     }
 }
 
@@ -149,25 +194,21 @@ fn mode_or(default: Mode, value: Option<&str>) -> Option<Mode>
     }
 }
 
-/// What the words behind a command say.
+/// What the words behind a command say: options, and the words of none.
 #[derive(Clone, Copy)]
 pub(crate) struct Said<'a> {
-    pub how: How,
-    pub stop: Option<&'a str>,
+    pub options: Options<'a>,
     pub words: Rest<'a>,
 }
 
 impl<'a> Said<'a> {
-    /// What these words say, if each option is right and stands once at most.
+    /// What these words say, if each option stands once at most.
     pub(crate) fn of(words: &'a [String]) -> Option<Said<'a>>
-        ensures said { IsSaid (said_by (map string_bytes words.now)) result }
-        ensures can { IfSome result (λ said. CanBeRun said.how.delegates said.how.ring) }
+        ensures { IsSaid (said_by (map string_bytes words.now)) result }
     {
         let options = Options::of(words).ok()?;
-        let how = options.how()?;
         Some(Said {
-            how,
-            stop: options.stop,
+            options,
             words: Rest::of(words),
         })
     }

@@ -4,12 +4,13 @@ ghost use Rattle.std.specs.Prelude.{true, false, codes, MatchOption, IsSome};
 ghost use Rattle.std.specs.Option.{option_map};
 ghost use Rattle.std.specs.Str.{bytes_eq};
 ghost use Rattle.command_line.specs.Pieces.{is_plain, joined, pieces};
-ghost use Rattle.command_line.specs.kept.Rests.{piece_of, rest_pieces, said_joined, said_option};
+ghost use Rattle.command_line.specs.kept.Rests.{piece_of, rest_pieces, said_joined};
+ghost use Rattle.command_line.specs.kept.Rests.{said_flag, said_option};
 ghost use Rattle.command_line.specs.kept.Rests.{IsSplit, IsSplitFrom, IsSplitWord};
 
-use crate::setting::{Setting, setting_named};
+use crate::setting::{Setting, flag_named, setting_named};
 
-/// A word behind a command, and the option whose value it is, if it is one's.
+/// A word behind a command, and the option whose value it is, or which it names, if it has no value.
 #[derive(Clone, Copy)]
 pub(crate) struct Piece<'a> {
     pub owner: Option<Setting>,
@@ -129,6 +130,24 @@ impl<'a> Rest<'a> {
         }
     }
 
+    // An option without a value, before these words.
+    fn split_flag(self, word: &'a str) -> Result<Option<(Piece<'a>, Rest<'a>)>, Usage>
+        requires { self.is_behind_end ≡ false }
+        ensures { IsSplitFrom (said_flag word.now (map string_bytes self.entry.words.now))
+            (length self.entry.words.now + 1) result }
+    {
+        match flag_named(word) {
+            Some(owner) => Ok(Some((
+                Piece {
+                    owner: Some(owner),
+                    word,
+                },
+                self,
+            ))),
+            None => self.split_joined(word),
+        }
+    }
+
     // An option, before these words.
     fn split_option(self, word: &'a str) -> Result<Option<(Piece<'a>, Rest<'a>)>, Usage>
         requires { self.is_behind_end ≡ false }
@@ -137,7 +156,7 @@ impl<'a> Rest<'a> {
     {
         match setting_named(word) {
             Some(owner) => self.split_value(owner),
-            None => self.split_joined(word),
+            None => self.split_flag(word),
         }
     }
 

@@ -1,6 +1,6 @@
 // The options, and the modes, by the words that name them.
 ghost use Rattle.std.specs.Prelude.{◌≡◌};
-ghost use Rattle.command_line.specs.Pieces.{setting_named};
+ghost use Rattle.command_line.specs.Pieces.{setting_named, flag_named};
 ghost use Rattle.command_line.specs.Options.{mode_named};
 
 /// How delegated operations are to be run, where there are delegates. Here it is a word alone.
@@ -12,16 +12,18 @@ pub enum Mode {
     Batch,
 }
 
-/// An option. Each has a value.
+/// An option. `Trace` and `Order` have no value.
 #[derive(Clone, Copy)]
 pub(crate) enum Setting {
     Delegates,
     Mode,
     Ring,
     Stop,
+    Trace,
+    Order,
 }
 
-/// The option of this name.
+/// The option of this name that has a value.
 #[tactic(auto, unfolding(crate::specs::Pieces::setting_named))]
 pub(crate) fn setting_named(word: &str) -> Option<Setting>
     ensures { result ≡ setting_named word.now }
@@ -31,6 +33,18 @@ pub(crate) fn setting_named(word: &str) -> Option<Setting>
         "--mode" => Some(Setting::Mode),
         "--ring" => Some(Setting::Ring),
         "--stop" => Some(Setting::Stop),
+        _ => None,
+    }
+}
+
+/// The option of this name that has no value.
+#[tactic(auto, unfolding(crate::specs::Pieces::flag_named))]
+pub(crate) fn flag_named(word: &str) -> Option<Setting>
+    ensures { result ≡ flag_named word.now }
+{
+    match word {
+        "--trace" => Some(Setting::Trace),
+        "--order" => Some(Setting::Order),
         _ => None,
     }
 }

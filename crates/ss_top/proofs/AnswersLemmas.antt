@@ -1,5 +1,5 @@
 -- Which answer the texts of a command's first inputs call for, one text more.
-use Rattle.std.proofs.Common.{◌≡◌, ℕ, zero, suc, ◌+◌, ◌<◌, ◌≤◌, Bool, true, false, cond, ◌==◌}
+use Rattle.std.proofs.Common.{◌≡◌, ℕ, ◌+◌, ◌<◌, true, false, cond, ◌==◌}
 use Rattle.std.proofs.Common.{List, [], ◌∷◌, ◌++◌, length, take, drop, Some, None, slice_get}
 use Rattle.std.proofs.Common.{refl, sym, ap, ap₂, ◌∙◌, subst, ⊎_elim, arith}
 use Rattle.std.proofs.lemmas.Bool.{cases_Bool}
@@ -14,7 +14,7 @@ use Rattle.ss_top.specs.Inputs.{Input, inputs_of}
 use Rattle.ss_top.specs.Limits.{limit_passed}
 use Rattle.ss_top.specs.Answers.{Answer, over_limit, or_limit, bytes_behind, bytes_after}
 use Rattle.ss_top.specs.Answers.{first_passed, limit_asked, answer_to_all, answer_after}
-use Rattle.ss_top.specs.Answers.{texts_held, expected_answer}
+use Rattle.ss_top.specs.Answers.{texts_held}
 use Rattle.ss_top.specs.Readings.{IfTold, IfCalledFor, AreHeld, IsNeeded, IsOver, left_of}
 
 -- the next element of a list

@@ -11,7 +11,7 @@ use Rattle.script_lang.specs.Lines.{lines}
 use Rattle.ss_base.specs.declared.limits.TheConstants as limits
 use Rattle.command_line.specs.declared.command.Command.{Command}
 use Rattle.command_line.specs.declared.setting.Mode.{Mode}
-use Rattle.command_line.specs.declared.command.Command.TheVariants.{Index, Script, Gen}
+use Rattle.command_line.specs.declared.command.Command.TheVariants.{Index, Script, Replay, Gen}
 use Rattle.ss_top.specs.declared.status.LimitHit.{LimitHit}
 use Rattle.ss_top.specs.declared.status.LimitHit.TheVariants.{Names, Document, AllDocuments}
 use Rattle.ss_top.specs.declared.status.LimitHit.TheVariants.{StopBytes, ScriptBytes, ScriptLines}
@@ -20,10 +20,11 @@ use Rattle.ss_top.specs.declared.status.Which.TheVariants as input
 use Rattle.std.specs.Prelude.{IsSome, is_some}
 use Rattle.ss_top.specs.Inputs.{Input, documents_from, index_inputs, inputs_of, is_same_input}
 use Rattle.ss_top.specs.Inputs.{name_of}
-use Rattle.ss_top.specs.Limits.{first_limit, first_limit_from, limit_passed, limit_over}
+use Rattle.ss_top.specs.Limits.{first_limit, first_limit_from, limit_over}
 use Rattle.ss_top.specs.Limits.{script_limit}
-use Rattle.ss_top.specs.Answers.{bytes_behind, first_passed, limit_asked}
+use Rattle.ss_top.specs.Answers.{first_passed, limit_asked}
 use Rattle.ss_top.specs.Answers.{prints, answer_after}
+use Rattle.ss_top.specs.Runs.{IsReplay}
 use Rattle.command_line.specs.CommandLine.{CanBeAsked}
 use Rattle.index_definitions.specs.IndexText.{index_text}
 use Rattle.ss_top.proofs.AnswersLemmas.{or_none, answer_after-all}
@@ -276,3 +277,13 @@ pub removed :
     → 0 < length xs → x ≡ get_or xs 0 x → ys ≡ drop 1 xs → xs ≡ x ∷ ys
 removed [] x ys some value rest = absurd (omega (arith, some))
 removed (y ∷ xs) x ys some value rest = sym (ap₂ (λ z zs. z ∷ zs) value rest)
+
+-- a replay has few inputs, and asks for no limit
+pub few_replay :
+    (command : Command) (lanes : ℕ) (order : Bool) → IsReplay command lanes order
+    → (length (inputs_of command) ≤ limits.NAMES + 1)
+    × (0 < length (inputs_of command) → limit_asked command ≡ None)
+few_replay (Index delegates mode ring stop names) lanes order is = absurd is
+few_replay (Script delegates mode ring trace name) lanes order is = absurd is
+few_replay (Replay delegates order one other) lanes asked is = (omega arith, λ _. refl)
+few_replay (Gen delegates mode ring docs words seed) lanes order is = absurd is

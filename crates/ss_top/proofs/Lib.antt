@@ -1,8 +1,10 @@
 pub mod AnswersLemmas
+pub mod ExecutionsLemmas
 pub mod GeneratedLemmas
 pub mod InputsLemmas
 pub mod LimitsLemmas
 pub mod LinesLemmas
 pub mod PartsLemmas
 pub mod ReadingsLemmas
+pub mod ReplayWordsLemmas
 pub mod RunsLemmas

@@ -1,22 +1,22 @@
 -- What reading inputs one behind the other does to a shelf.
-use Rattle.std.proofs.Common.{◌≡◌, ℕ, zero, suc, ◌+◌, ◌<◌, ◌≤◌, Bool, true, false, cond, nat_lt}
+use Rattle.std.proofs.Common.{◌≡◌, ℕ, zero, suc, ◌+◌, ◌<◌, cond, nat_lt}
 use Rattle.std.proofs.Common.{List, [], ◌∷◌, ◌++◌, length, map, take, Some, None, slice_get}
 use Rattle.std.proofs.Common.{IsSome, refl, sym, ap, ◌∙◌, subst, arith, append-nil, append_assoc}
-use Rattle.std.proofs.Common.{length-append, ⊎_elim, min}
-use Rattle.std.specs.Prelude.{IsTrue, MatchOption, is_some}
+use Rattle.std.proofs.Common.{length-append, ⊎_elim}
+use Rattle.std.specs.Prelude.{MatchOption, is_some}
 use Rattle.std.specs.declared.option.Option.{Option}
 use Rattle.std.proofs.lemmas.Bool.{cases_Bool}
 use Rattle.std.proofs.lemmas.List.{map-append}
 use Rattle.std.proofs.lemmas.Option.{slice_get_within}
 use Rattle.ss_base.specs.declared.outside.Shelf
 use Rattle.ss_base.specs.Faults.{Rose}
-use Rattle.ss_base.specs.Shelves.{Contents, IsHeld, IsSteady, ReadsWhole, name_held, last_name}
+use Rattle.ss_base.specs.Shelves.{Contents, IsHeld, IsSteady, ReadsWhole, last_name}
 use Rattle.ss_base.proofs.ShelvesLemmas.{last_name-append}
 use Rattle.command_line.specs.declared.command.Command.{Command}
 use Rattle.ss_top.specs.declared.status.Which.{Which}
 use Rattle.ss_top.specs.Inputs.{Input, inputs_of, inputs_for}
 use Rattle.ss_top.specs.Limits.{limit_passed}
-use Rattle.ss_top.specs.Answers.{bytes_after, first_passed, limit_asked, texts_held}
+use Rattle.ss_top.specs.Answers.{bytes_after, limit_asked, texts_held}
 use Rattle.ss_top.specs.Readings.{IfTold, AreHeld, IsNeeded, left_of}
 use Rattle.ss_top.specs.Readings.{Asks, AsksInOrder, Reads, FailsAt}
 use Rattle.ss_top.proofs.AnswersLemmas.{take_next, AreHeld-front, AreHeld-back, AreHeld-take}

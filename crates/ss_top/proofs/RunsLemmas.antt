@@ -1,7 +1,9 @@
 -- Which answer the result of a command gives, and what a run leaves then.
 use Rattle.std.proofs.Common.{◌≡◌, ◌≢◌, ℕ, ◌<◌, true, false, ◌==◌, List, [], length}
-use Rattle.std.proofs.Common.{Some, None, Result, Err, refl, sym, ap, ◌∙◌, subst, ⊎_elim, arith}
+use Rattle.std.proofs.Common.{Some, None, Result, Ok, Err, refl, sym, ap, ◌∙◌, subst, ⊎_elim, arith}
 use Rattle.std.proofs.Common.{take, inr}
+use Rattle.std.specs.Prelude.{IfOk, IfSome, OnSome}
+use Rattle.script_lang.specs.Listings.{Listing}
 use Rattle.std.specs.declared.option.Option.{Option}
 use Rattle.std.proofs.lemmas.Bool.{cases_Bool}
 use Rattle.std.proofs.lemmas.List.{take_all}
@@ -11,6 +13,7 @@ use Rattle.ss_base.specs.declared.outside.Sink
 use Rattle.ss_base.specs.Faults.{Rose}
 use Rattle.ss_base.specs.Shelves.{Contents}
 use Rattle.command_line.specs.declared.command.Command.{Command}
+use Rattle.ss_top.specs.declared.commands.Broken.{Broken}
 use Rattle.ss_top.specs.declared.commands.Printed.{Printed}
 use Rattle.ss_top.specs.declared.no_text.NoText.{NoText}
 use Rattle.ss_top.specs.declared.no_text.NoText.TheVariants as no_text
@@ -25,8 +28,11 @@ use Rattle.ss_top.specs.Answers.{Answer, over_limit, prints, has_fault}
 use Rattle.ss_top.specs.Answers.{limit_asked, answer_after, texts_held}
 use Rattle.ss_top.specs.Readings.{IfTold, IfCalledFor, Asks, AsksInOrder, Reads, FailsAt}
 use Rattle.ss_top.specs.Readings.{IsLimitOf, left_of}
-use Rattle.ss_top.specs.Printings.{Answers, IsPrinted}
+use Rattle.ss_top.specs.Printings.{Answers, IsPrinted, HasEnded, HasNames, printed_answer}
+use Rattle.ss_top.specs.Printings.{script_names}
 use Rattle.ss_top.specs.Runs.{CanBreak, CanHave, Meets, Completes, IsWritten, StaysSure, Runs}
+use Rattle.ss_top.specs.Runs.{Tells, TellsStatus}
+use Rattle.ss_top.specs.Texts.{usage_text, memory_text}
 use Rattle.ss_top.specs.Statuses.{has_written, has_read_all}
 use Rattle.ss_top.proofs.AnswersLemmas.{none_long, first_passed-none, answer_after-none}
 use Rattle.ss_top.proofs.AnswersLemmas.{answer_after-unread}
@@ -297,3 +303,102 @@ module _ {S K : Type 0} (shelf : Shelf.Ghosts S) (sink : Sink.Ghosts K) where
             IfCalledFor-weaker (shelf.contents a) command _ _ (λ answer is text expected stood.
             printed.complete text (sym is.0 ∙ expected) (λ no. no)) called;
       }
+
+  -- nothing was written, and so out is as it was
+  ended-unwritten :
+      (command : Option Command) (status other : Status) (a b : S) (k l : K)
+      → (status ≡ other) × (l ≡ k) → Runs shelf sink command other a b k k
+      → Runs shelf sink command status a b k l
+  ended-unwritten command status other a b k l same runs =
+      subst (λ s. Runs shelf sink command s a b k l) (sym same.0)
+      (subst (λ out. Runs shelf sink command other a b k out) (sym same.1) runs)
+
+  -- the text of a command was written, or it has none
+  pub Runs-ended :
+      (command : Option Command) (given : Result Printed NoText) (status : Status)
+      (a b : S) (k l : K)
+      → AsksInOrder shelf a b command
+      → IfOk given (λ _. Asks shelf a b (inputs_for command))
+      → IfCalledFor (shelf.contents a) command (λ answer.
+      Answers answer (left_of (inputs_for command) (shelf.left b)) given)
+      → ((line : ℕ) (refusal : Refusal) → status ≡ Refused line refusal → CanBreak command)
+      → ((which : Which) → given ≡ Err (no_text.ReadFault which)
+      → FailsAt shelf a b command which)
+      → ((hit : LimitHit) → given ≡ Err (no_text.Limit hit) → IsLimitOf command hit)
+      → ((fault : TextFault) → given ≡ Err (no_text.Text fault)
+      → CanHave command fault × Asks shelf a b (inputs_for command))
+      → HasEnded sink given status k l
+      → Runs shelf sink command status a b k l
+  Runs-ended command (Ok printed) status a b k l asks whole called breaks fails limit text ended =
+      Runs-printed command (printed_answer printed) status a b k l asks whole breaks called ended
+  Runs-ended command (Err (no_text.ReadFault which)) status a b k l asks whole called breaks fails
+      limit text ended =
+      ended-unwritten command status (ReadFault which) a b k l ended
+      (Runs-failed command which a b k asks (fails which refl))
+  Runs-ended command (Err (no_text.Limit hit)) status a b k l asks whole called breaks fails
+      limit text ended =
+      ended-unwritten command status (Limit hit) a b k l ended
+      (Runs-limit command hit a b k asks (limit hit refl) called)
+  Runs-ended command (Err (no_text.Text fault)) status a b k l asks whole called breaks fails
+      limit text ended =
+      let given = text fault refl in
+      ended-unwritten command status (Text fault) a b k l ended
+      (Runs-wrong command fault a b k asks given.1 given.0 called)
+  Runs-ended command (Err no_text.OutOfMemory) status a b k l asks whole called breaks fails
+      limit text ended =
+      ended-unwritten command status OutOfMemory a b k l ended (Runs-memory command a b k asks)
+
+module _ {K : Type 0} (sink : Sink.Ghosts K) where
+  -- a command doesn't end as words that are none
+  pub ended-no_usage :
+      (given : Result Printed NoText) (status : Status) (k l : K)
+      → HasEnded sink given status k l → status ≢ Usage
+  ended-no_usage (Ok printed) status k l ended is =
+      let no : false ≡ true = sym (ap has_written is) ∙ ended.written in absurd (cc)
+  ended-no_usage (Err (no_text.ReadFault which)) status k l ended is =
+      let same : Usage ≡ ReadFault which = sym is ∙ ended.0 in absurd (cc)
+  ended-no_usage (Err (no_text.Limit hit)) status k l ended is =
+      let same : Usage ≡ Limit hit = sym is ∙ ended.0 in absurd (cc)
+  ended-no_usage (Err (no_text.Text fault)) status k l ended is =
+      let same : Usage ≡ Text fault = sym is ∙ ended.0 in absurd (cc)
+  ended-no_usage (Err no_text.OutOfMemory) status k l ended is =
+      let same : Usage ≡ OutOfMemory = sym is ∙ ended.0 in absurd (cc)
+
+-- the script of a text that broke off can break
+pub CanBreak-broken :
+    (command : Option Command) (given : Result Printed NoText) (printed : Printed) (broken : Broken)
+    → IfOk given (λ printed. OnSome printed.broken (CanBreak command))
+    → given ≡ Ok printed → printed.broken ≡ Some broken → CanBreak command
+CanBreak-broken command given printed broken can is some =
+    subst (λ o. OnSome o (CanBreak command)) some
+    (subst (λ result. IfOk result (λ printed. OnSome printed.broken (CanBreak command))) is can)
+
+-- and its names are those of the script that is kept
+pub names-broken :
+    (contents : Option Contents) (names : Contents → List (List ℕ))
+    (given : Result Printed NoText) (printed : Printed) (broken : Broken) (script : Option Listing)
+    → IfTold contents (λ told. HasNames given (names told))
+    → given ≡ Ok printed → printed.broken ≡ Some broken → script ≡ Some broken.script
+    → IfTold contents (λ told. script_names script ≡ names told)
+names-broken None names given printed broken script has is some kept = tt
+names-broken (Some told) names given printed broken script has is some kept =
+    ap script_names kept
+    ∙ subst (λ o. IfSome o (λ broken. broken.script.names ≡ names told)) some
+    (subst (λ result. HasNames result (names told)) is has)
+
+-- words that are no command are told so
+pub TellsStatus-usage :
+    (contents : Option Contents) (before after : Option (List ℕ)) (faults_before faults_after : ℕ)
+    → Tells before after faults_before faults_after usage_text
+    → TellsStatus contents None Usage before after faults_before faults_after
+TellsStatus-usage None before after faults_before faults_after told = ([], told)
+TellsStatus-usage (Some held) before after faults_before faults_after told = told
+
+-- and so is a want of memory
+pub TellsStatus-memory :
+    (contents : Option Contents) (command : Option Command) (before after : Option (List ℕ))
+    (faults_before faults_after : ℕ)
+    → Tells before after faults_before faults_after memory_text
+    → TellsStatus contents command OutOfMemory before after faults_before faults_after
+TellsStatus-memory None command before after faults_before faults_after told = ([], told)
+TellsStatus-memory (Some held) command before after faults_before faults_after told = told

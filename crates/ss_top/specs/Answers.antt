@@ -2,7 +2,7 @@
 --
 -- The texts that are read so far call for a limit where they pass one. All texts together call for
 -- what the command prints, or for the fault of a text.
-use Rattle.std.specs.Prelude.{ℕ, ◌+◌, List, [], ◌∷◌, length, nat_lt, ◌==◌, if◌then◌else◌}
+use Rattle.std.specs.Prelude.{ℕ, ◌+◌, Bool, List, [], ◌∷◌, length, ◌==◌, if◌then◌else◌}
 use Rattle.std.specs.Prelude.{None, Some, Result, Ok, Err}
 use Rattle.std.specs.declared.option.Option.{Option}
 use Rattle.std.specs.Option.{option_map_or, option_or}
@@ -10,11 +10,14 @@ use Rattle.index_definitions.specs.Index.{index}
 use Rattle.index_definitions.specs.IndexText.{index_text, summary_of_index}
 use Rattle.execution_definitions.specs.declared.refusal.Refusal.{Refusal}
 use Rattle.script_lang.specs.declared.fault.ScriptFault.{ScriptFault}
-use Rattle.script_lang.specs.ScriptAnswers.{ShownRecord, script_answer}
+use Rattle.script_lang.specs.Listings.{Listing, listing_of}
+use Rattle.script_lang.specs.Schedules.{schedule_of}
+use Rattle.script_lang.specs.ScriptAnswers.{ShownRecord, shown_of}
 use Rattle.ss_base.specs.declared.limits.TheConstants as limits
+use Rattle.ss_base.specs.declared.ids.Event.{Event}
 use Rattle.ss_base.specs.Shelves.{Contents}
 use Rattle.command_line.specs.declared.command.Command.{Command}
-use Rattle.command_line.specs.declared.command.Command.TheVariants.{Index, Script, Gen}
+use Rattle.command_line.specs.declared.command.Command.TheVariants.{Index, Script, Replay, Gen}
 use Rattle.ss_top.specs.declared.status.LimitHit.{LimitHit}
 use Rattle.ss_top.specs.declared.status.LimitHit.TheVariants.{Names}
 use Rattle.ss_top.specs.declared.status.TextFault.{TextFault}
@@ -24,6 +27,7 @@ use Rattle.ss_top.specs.declared.status.Which.TheVariants.{Name}
 use Rattle.ss_top.specs.Inputs.{Input, inputs_of, inputs_for}
 use Rattle.ss_top.specs.Limits.{limit_passed, limit_over}
 use Rattle.ss_top.specs.Generated.{generated_documents, generated_limit}
+use Rattle.ss_top.specs.Executions.{followed, trace_of, order_of}
 
 -- a limit that is passed, or a text to print, or the fault of an input's text, or a text to print
 -- and the line and the refusal at which it breaks off
@@ -49,10 +53,24 @@ abbrev pub printed : List ℕ → Option (ℕ × Refusal) → Answer
 printed text None = prints text
 printed text (Some (line, refusal)) = breaks_off text line refusal
 
--- what a script shows, or its fault
-abbrev pub shown_answer : Result ShownRecord ScriptFault → Answer
-shown_answer (Ok shown) = printed shown.text shown.stopped
-shown_answer (Err fault) = has_fault (text_fault.Script fault)
+-- what a script shows, and where it stops
+abbrev pub shown_answer : ShownRecord → Answer
+shown_answer shown = printed shown.text shown.stopped
+
+-- what a script shows, and then its trace where that is asked for; or its fault
+abbrev pub traced_answer : Bool → Result Listing ScriptFault → Answer
+traced_answer trace (Ok listing) =
+    shown_answer (followed trace (shown_of listing) (trace_of listing))
+traced_answer trace (Err fault) = has_fault (text_fault.Script fault)
+
+-- what a script shows, and then its order on so many lanes under a schedule where that is asked
+-- for; or the fault of the script, or the first bad word of the schedule
+abbrev pub replay_answer :
+    ℕ → Bool → Result Listing ScriptFault → Result (List Event) ℕ → Answer
+replay_answer lanes order (Ok listing) (Ok schedule) =
+    shown_answer (followed order (shown_of listing) (order_of lanes listing schedule))
+replay_answer lanes order (Ok listing) (Err word) = has_fault (text_fault.Schedule word)
+replay_answer lanes order (Err fault) schedule = has_fault (text_fault.Script fault)
 
 -- how many bytes of documents there are behind an input, with so many before it
 abbrev pub bytes_behind : ℕ → Which → List ℕ → ℕ
@@ -77,7 +95,8 @@ first_passed before (input ∷ inputs) (text ∷ texts) =
 -- the limit that a command passes by what it asks for, before anything is read
 abbrev pub limit_asked : Command → Option LimitHit
 limit_asked (Index delegates mode ring stop names) = limit_over limits.NAMES (length names) (Names (length names))
-limit_asked (Script delegates mode ring name) = None
+limit_asked (Script delegates mode ring trace name) = None
+limit_asked (Replay delegates order script schedule) = None
 limit_asked (Gen delegates mode ring docs words seed) = generated_limit docs words seed
 
 -- what the texts of all inputs call for, where they pass no limit
@@ -85,7 +104,10 @@ abbrev pub answer_to_all : Command → List (List ℕ) → Option Answer
 answer_to_all (Index delegates mode ring None names) documents = Some (prints (index_text documents []))
 answer_to_all (Index delegates mode ring (Some name) names) (stop ∷ documents) =
     Some (prints (index_text documents stop))
-answer_to_all (Script delegates mode ring name) (script ∷ []) = Some (shown_answer (script_answer script))
+answer_to_all (Script delegates mode ring trace name) (script ∷ []) =
+    Some (traced_answer trace (listing_of script))
+answer_to_all (Replay delegates order one other) (script ∷ schedule ∷ []) =
+    Some (replay_answer delegates order (listing_of script) (schedule_of schedule))
 answer_to_all (Gen delegates mode ring docs words seed) [] =
     Some (prints (summary_of_index (index (generated_documents docs words seed) [])))
 answer_to_all command texts = None

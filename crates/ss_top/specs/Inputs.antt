@@ -28,7 +28,9 @@ index_inputs (Some stop) names = (Stop, stop) ∷ documents_from 1 names
 -- the inputs of a command, in the order in which they are read
 abbrev pub inputs_of : Command → List Input
 inputs_of (command.Index delegates mode ring stop names) = index_inputs stop names
-inputs_of (command.Script delegates mode ring name) = (Script, name) ∷ []
+inputs_of (command.Script delegates mode ring trace name) = (Script, name) ∷ []
+inputs_of (command.Replay delegates order script schedule) =
+    (Script, script) ∷ (Schedule, schedule) ∷ []
 inputs_of (command.Gen delegates mode ring docs words seed) = []
 
 -- those of a command line, which has none where its words are no command

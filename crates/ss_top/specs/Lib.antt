@@ -2,6 +2,7 @@ pub mod Statuses
 pub mod Inputs
 pub mod Limits
 pub mod Generated
+pub mod Executions
 pub mod Answers
 pub mod Texts
 pub mod Readings

@@ -11,11 +11,14 @@ use Rattle.ss_top.specs.declared.commands.Printed.{Printed}
 use Rattle.ss_top.specs.declared.no_text.NoText.{NoText}
 use Rattle.ss_top.specs.declared.no_text.NoText.TheVariants as no_text
 use Rattle.ss_top.specs.declared.status.Status.{Status}
-use Rattle.ss_top.specs.declared.status.Status.TheVariants.{WriteFault}
+use Rattle.ss_top.specs.declared.status.Status.TheVariants.{ReadFault, WriteFault, OutOfMemory}
+use Rattle.ss_top.specs.declared.status.Status.TheVariants.{Limit, Text}
 use Rattle.ss_top.specs.declared.generate.GenFault.{GenFault}
 use Rattle.ss_top.specs.declared.generate.GenFault.TheVariants as fault
 use Rattle.script_lang.specs.declared.fault.ParseFault.{ParseFault}
 use Rattle.script_lang.specs.declared.fault.ParseFault.TheVariants as parse_fault
+use Rattle.script_lang.specs.declared.schedule.ScheduleStop.{ScheduleStop}
+use Rattle.script_lang.specs.declared.schedule.ScheduleStop.TheVariants as schedule_stop
 use Rattle.ss_top.specs.declared.status.TextFault.TheVariants as text_fault
 use Rattle.ss_top.specs.Answers.{Answer, over_limit, prints, has_fault, breaks_off}
 use Rattle.ss_top.specs.Runs.{Meets, Completes, IsWritten, StaysSure}
@@ -52,6 +55,21 @@ module _ {K : Type 0} (sink : Sink.Ghosts K) where
     pub complete :
         Completes (Some answer) status ⊥ (Rose (sink.faults before) (sink.faults after))
 
+-- the status of a command that has no text
+abbrev pub status_without : NoText → Status
+status_without (no_text.ReadFault which) = ReadFault which
+status_without (no_text.Limit hit) = Limit hit
+status_without (no_text.Text what) = Text what
+status_without no_text.OutOfMemory = OutOfMemory
+
+module _ {K : Type 0} (sink : Sink.Ghosts K) where
+  -- a run ended with this status: its text was written to out, or there was none, and out is as it was
+  abbrev pub HasEnded : Result Printed NoText → Status → K → K → Type 0
+  HasEnded (Ok printed) status before after =
+      IsPrinted sink (printed_answer printed) status before after
+  HasEnded (Err fault) status before after =
+      (status ≡ status_without fault) × (after ≡ before)
+
 -- a script that broke the partition rule, if one did, has these names of objects
 abbrev pub HasNames : Result Printed NoText → List (List ℕ) → Type 0
 HasNames result names =
@@ -71,3 +89,8 @@ no_text_of fault.OutOfMemory = no_text.OutOfMemory
 abbrev pub no_text_for : ParseFault → NoText
 no_text_for (parse_fault.Text what) = no_text.Text (text_fault.Script what)
 no_text_for parse_fault.OutOfMemory = no_text.OutOfMemory
+
+-- why there is no text, where a schedule wasn't read
+abbrev pub no_text_from : ScheduleStop → NoText
+no_text_from (schedule_stop.Word word) = no_text.Text (text_fault.Schedule word)
+no_text_from schedule_stop.OutOfMemory = no_text.OutOfMemory

@@ -1,8 +1,9 @@
 -- What does a run leave?
-use Rattle.std.specs.Prelude.{◌≡◌, ◌≢◌, ℕ, ◌+◌, ◌≤◌, true, false, List, [], length, ⊤, ◌⊎◌}
-use Rattle.std.specs.Prelude.{Some, None, option_and_then}
+use Rattle.std.specs.Prelude.{◌≡◌, ◌≢◌, ℕ, ◌+◌, ◌≤◌, Bool, true, false, List, [], ◌∷◌, length, ⊤, ◌⊎◌}
+use Rattle.std.specs.Prelude.{Some, None, option_and_then, codes}
 use Rattle.std.specs.declared.option.Option.{Option}
 use Rattle.std.specs.Io.KnownBytes.{Appends}
+use Rattle.std.specs.Str.{bytes_eq}
 use Rattle.execution_definitions.specs.declared.refusal.Refusal.{Refusal}
 use Rattle.ss_base.specs.declared.outside.Shelf
 use Rattle.ss_base.specs.declared.outside.Sink
@@ -17,7 +18,7 @@ use Rattle.ss_top.specs.declared.status.TextFault.{TextFault}
 use Rattle.ss_top.specs.declared.status.TextFault.TheVariants as fault
 use Rattle.ss_top.specs.declared.status.Which.{Which}
 use Rattle.command_line.specs.declared.command.Command.{Command}
-use Rattle.command_line.specs.declared.command.Command.TheVariants.{Script}
+use Rattle.command_line.specs.declared.command.Command.TheVariants.{Script, Replay}
 use Rattle.ss_top.specs.Answers.{Answer, over_limit, prints, has_fault, breaks_off, text_printed}
 use Rattle.ss_top.specs.Answers.{texts_held}
 use Rattle.ss_top.specs.Inputs.{inputs_for}
@@ -26,14 +27,35 @@ use Rattle.ss_top.specs.Readings.{IfCalledFor, IsLimitOf, left_of}
 use Rattle.ss_top.specs.Statuses.{has_written, has_read_all}
 use Rattle.ss_top.specs.Texts.{status_text, names_in}
 
+-- the command, where it is a replay
+abbrev pub replay_only : Option Command → Option Command
+replay_only (Some (Replay delegates order script schedule)) =
+    Some (Replay delegates order script schedule)
+replay_only command = None
+
+-- the first word is that of a replay
+abbrev pub names_replay : List (List ℕ) → Bool
+names_replay [] = false
+names_replay (name ∷ words) = bytes_eq name (codes "replay")
+
+-- a replay on so many lanes, with its order or without
+abbrev pub IsReplay : Command → ℕ → Bool → Type 0
+IsReplay (Replay delegates order script schedule) lanes asked =
+    (delegates ≡ lanes) × (order ≡ asked)
+IsReplay command lanes asked = ⊥
+
 -- a text can be refused: that of a script
 abbrev pub CanBreak : Option Command → Type 0
-CanBreak (Some (Script delegates mode ring name)) = ⊤
+CanBreak (Some (Script delegates mode ring trace name)) = ⊤
+CanBreak (Some (Replay delegates order script schedule)) = ⊤
 CanBreak command = ⊥
 
--- a text can have this fault: only that of a script has a bad line of a script
+-- a text can have this fault: only that of a script has a bad line of a script, and only that of a
+-- schedule a bad word of one
 abbrev pub CanHave : Option Command → TextFault → Type 0
-CanHave (Some (Script delegates mode ring name)) (fault.Script what) = ⊤
+CanHave (Some (Script delegates mode ring trace name)) (fault.Script what) = ⊤
+CanHave (Some (Replay delegates order script schedule)) (fault.Script what) = ⊤
+CanHave (Some (Replay delegates order script schedule)) (fault.Schedule word) = ⊤
 CanHave command fault = ⊥
 
 -- out gained the text that was called for, and nothing is left of the last input

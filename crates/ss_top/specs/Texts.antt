@@ -18,7 +18,7 @@ use Rattle.ss_top.specs.declared.status.LimitHit.TheVariants.{Names, Document, A
 use Rattle.ss_top.specs.declared.status.LimitHit.TheVariants.{StopBytes, ScriptBytes, ScriptLines}
 use Rattle.ss_top.specs.declared.status.LimitHit.TheVariants.{ScheduleBytes}
 use Rattle.ss_top.specs.declared.status.TextFault.{TextFault}
-use Rattle.ss_top.specs.declared.status.TextFault.TheVariants.{Script}
+use Rattle.ss_top.specs.declared.status.TextFault.TheVariants.{Script, Schedule}
 use Rattle.ss_top.specs.declared.status.Status.{Status}
 use Rattle.ss_top.specs.declared.status.Status.TheVariants.{Done, Usage, ReadFault, WriteFault}
 use Rattle.ss_top.specs.declared.status.Status.TheVariants.{OutOfMemory, Limit, Refused, Text}
@@ -90,9 +90,14 @@ kind_text kind.NameTaken = codes "name is taken"
 kind_text kind.NameUnknown = codes "unknown name"
 kind_text kind.BadNumber = codes "bad number"
 
+-- what there is to say of a word of a schedule
+unfoldable pub word_text : ℕ → List ℕ
+word_text word = codes "ssidx: schedule word " ++ decimal word ++ codes ": not p or a lane\n"
+
 -- the text of the fault of an input's text
 abbrev pub fault_text : TextFault → List ℕ
 fault_text (Script fault) = line_text fault.line (kind_text fault.kind)
+fault_text (Schedule word) = word_text word
 
 -- the name of an object, of these by their numbers
 abbrev pub object_name : List (List ℕ) → ObjectId → List ℕ
@@ -147,5 +152,8 @@ names_listed (Err fault) = []
 
 -- those of a command's script, by the texts of the command's inputs
 abbrev pub names_in : Option Command → List (List ℕ) → List (List ℕ)
-names_in (Some (command.Script delegates mode ring name)) (script ∷ []) = names_listed (listing_of script)
+names_in (Some (command.Script delegates mode ring trace name)) (script ∷ []) =
+    names_listed (listing_of script)
+names_in (Some (command.Replay delegates order one other)) (script ∷ schedule ∷ []) =
+    names_listed (listing_of script)
 names_in command texts = []

@@ -9,14 +9,16 @@ ghost use Rattle.ss_top.specs.Inputs.{inputs_of};
 ghost use Rattle.ss_top.specs.Printings.{Answers, HasNames};
 ghost use Rattle.ss_top.specs.Readings.{Asks, AsksInOrder, FailsAt, IfCalledFor, IfTold, IsLimitOf};
 ghost use Rattle.ss_top.specs.Readings.{left_of};
-ghost use Rattle.ss_top.specs.Runs.{CanBreak, CanHave};
+ghost use Rattle.ss_top.specs.Runs.{CanBreak, CanHave, IsReplay};
 ghost use Rattle.ss_top.specs.Texts.{names_in};
 
 mod generated;
 mod index;
 mod indexing;
+mod replay;
 mod runtime;
 mod script;
+mod shown;
 
 use crate::inputs::read_inputs;
 use crate::no_text::NoText;
@@ -113,9 +115,16 @@ where
                 Ok(whole(index::index_text(rt, alloc, *delegates, stop, texts)?))
             }
         },
-        Command::Script { delegates, .. } => {
-            Ok(script::script_text(rt, alloc, *delegates, &texts[0])?)
-        }
+        Command::Script {
+            delegates,
+            trace,
+            ..
+        } => Ok(script::script_text(rt, alloc, *delegates, *trace, &texts[0])?),
+        Command::Replay {
+            delegates,
+            order,
+            ..
+        } => replay::replay_text(alloc, *delegates, *order, &texts[0], &texts[1]),
         Command::Gen {
             delegates,
             docs,
@@ -156,4 +165,33 @@ where
     }
     let texts = read_inputs(alloc, shelf, command)?;
     text_by(rt, alloc, command, texts)
+}
+
+/// The text that a replay on so many lanes prints. It starts no thread, and never waits.
+pub(crate) fn replayed_by<L: Shelf>(
+    alloc: Global,
+    shelf: &mut L,
+    command: &Command,
+    lanes: u32,
+    order: bool,
+) -> Result<Printed, NoText>
+    requires can { CanBeAsked command.now }
+    requires is { IsReplay command.now lanes order }
+    ensures asks { AsksInOrder L.Shelf shelf.old shelf.new (Some command.now) }
+    ensures whole { IfOk result (λ _. Asks L.Shelf shelf.old shelf.new (inputs_of command.now)) }
+    ensures answers { IfCalledFor (L.contents shelf.old) (Some command.now) (λ answer.
+        Answers answer (left_of (inputs_of command.now) (L.left shelf.new)) result) }
+    ensures names { IfTold (L.contents shelf.old) (λ told. HasNames result
+        (names_in (Some command.now) (texts_held told (inputs_of command.now)))) }
+    ensures breaks { IfOk result (λ printed. OnSome printed.broken (CanBreak (Some command.now))) }
+    ensures read_fault { (which : Which) → result ≡ Err (NoText.ReadFault which) →
+        FailsAt L.Shelf shelf.old shelf.new (Some command.now) which }
+    ensures limit { (hit : LimitHit) → result ≡ Err (NoText.Limit hit) →
+        IsLimitOf (Some command.now) hit }
+    ensures text { (fault : TextFault) → result ≡ Err (NoText.Text fault) →
+        CanHave (Some command.now) fault
+        × Asks L.Shelf shelf.old shelf.new (inputs_of command.now) }
+{
+    let inputs = read_inputs(alloc, shelf, command)?;
+    replay::replay_text(alloc, lanes, order, &inputs[0], &inputs[1])
 }

@@ -47,6 +47,15 @@ fn input_at(command: &Command, place: usize) -> Option<(Which, &str)>
             None => Some((Which::Stop, stop.as_str())),
         },
         Command::Script { name, .. } if place == 0 => Some((Which::Script, name.as_str())),
+        Command::Replay {
+            script,
+            schedule,
+            ..
+        } => match place {
+            0 => Some((Which::Script, script.as_str())),
+            1 => Some((Which::Schedule, schedule.as_str())),
+            _ => None,
+        },
         _ => None,
     }
 }

@@ -1,10 +1,10 @@
 // Why a command has no text to print.
 ghost use Rattle.std.specs.Prelude.{◌≡◌};
-ghost use Rattle.ss_top.specs.Printings.{no_text_of, no_text_for};
+ghost use Rattle.ss_top.specs.Printings.{no_text_of, no_text_for, no_text_from};
 ghost use Rattle.ss_top.specs.declared.no_text.NoText.TheVariants as no_text;
 
 use crate::{GenFault, LimitHit, TextFault, Which};
-use script_lang::ParseFault;
+use script_lang::{ParseFault, ScheduleStop};
 use ss_base::OutOfMemory;
 use std::alloc::{AllocError, AllocFailed};
 
@@ -63,6 +63,17 @@ impl From<ParseFault> for NoText {
         match fault {
             ParseFault::Text(fault) => NoText::Text(TextFault::Script(fault)),
             ParseFault::OutOfMemory => NoText::OutOfMemory,
+        }
+    }
+}
+
+impl From<ScheduleStop> for NoText {
+    ghost from_gives = { λ stop given. given ≡ no_text_from stop };
+
+    fn from(stop: ScheduleStop) -> Self {
+        match stop {
+            ScheduleStop::Word(word) => NoText::Text(TextFault::Schedule { word }),
+            ScheduleStop::OutOfMemory => NoText::OutOfMemory,
         }
     }
 }

@@ -3,7 +3,7 @@ ghost use Rattle.std.specs.Prelude.{◌≡◌};
 ghost use Rattle.ss_top.specs.Statuses.{code_of};
 
 use execution_definitions::Refusal;
-use script_lang::{Script, ScriptFault};
+use script_lang::ScriptFault;
 use thiserror::Error;
 
 /// An input of a command. Names count from 1.
@@ -44,6 +44,12 @@ pub enum TextFault {
     /// The first bad line of a script.
     #[error(transparent)]
     Script(ScriptFault),
+    /// The first word of a schedule that is neither `p` nor a lane.
+    #[error("schedule word {word}: not p or a lane")]
+    Schedule {
+        /// Its number among the words, counted from 1.
+        word: u32,
+    },
 }
 
 /// How a run ended.
@@ -88,12 +94,4 @@ impl Status {
             Status::Text(_) => 8,
         }
     }
-}
-
-/// How a command ended, and the script that broke the partition rule if one did, since the names of
-/// its objects are told.
-#[derive(Drop)]
-pub(crate) struct Ended {
-    pub status: Status,
-    pub script: Option<Script>,
 }

@@ -12,7 +12,7 @@ ghost use Rattle.ss_top.specs.Texts.{line_text, kind_text, fault_text, object_na
 ghost use Rattle.ss_top.specs.Texts.{two_sets_text, private_text, refusal_text};
 ghost use Rattle.ss_top.specs.Printings.{script_names};
 
-use crate::status::Ended;
+use crate::ending::Ended;
 use crate::{LimitHit, Status, TextFault, Which};
 use command_line::Command;
 use execution_definitions::Refusal;
@@ -101,6 +101,16 @@ fn given_name(command: &Command, which: Which) -> Option<&str>
             Which::Stop => None,
             Which::Name(_) => None,
             Which::Schedule => None,
+        },
+        Command::Replay {
+            script,
+            schedule,
+            ..
+        } => match which {
+            Which::Script => Some(script.as_str()),
+            Which::Schedule => Some(schedule.as_str()),
+            Which::Stop => None,
+            Which::Name(_) => None,
         },
         Command::Gen { .. } => None,
     }
@@ -210,8 +220,15 @@ fn tell_fault<E: Sink>(err: &mut E, fault: TextFault)
     ensures { Tells (E.gained err.old) (E.gained err.new) (E.faults err.old) (E.faults err.new)
         (fault_text fault) }
 {
-    let TextFault::Script(fault) = fault;
-    tell_line(err, fault.line, kind_text(fault.kind));
+    match fault {
+        TextFault::Script(fault) => tell_line(err, fault.line, kind_text(fault.kind)),
+        TextFault::Schedule { word } => tell_number(
+            err,
+            b"ssidx: schedule word ",
+            u64::from(word),
+            b": not p or a lane\n",
+        ),
+    }
 }
 
 // The name of an object of a script, and no bytes without one.

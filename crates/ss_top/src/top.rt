@@ -3,58 +3,21 @@ ghost use Rattle.std.specs.Prelude.{◌≡◌, ◌≢◌, ◌↔◌, ℕ, None, 
 ghost use Rattle.command_line.specs.CommandLine.{outcome, CanBeAsked};
 ghost use Rattle.ss_top.specs.Answers.{texts_held};
 ghost use Rattle.ss_top.specs.Inputs.{inputs_of};
-ghost use Rattle.ss_top.specs.Printings.{printed_answer, script_names, IsPrinted};
+ghost use Rattle.ss_top.specs.Printings.{script_names};
 ghost use Rattle.ss_top.specs.Readings.{IfTold};
 ghost use Rattle.ss_top.specs.Runs.{Runs, TellsStatus};
 ghost use Rattle.ss_top.specs.Texts.{names_in};
 
 use crate::Status;
-use crate::commands::{Broken, Printed, printed_by};
-use crate::no_text::NoText;
-use crate::status::Ended;
+use crate::commands::printed_by;
+use crate::ending::{Ended, end_with};
 use crate::tell::{tell_memory, tell_status, tell_usage};
 use command_line::{Command, WordsFault, command_of};
 use execution_definitions::Refusal;
-use ss_base::{Failed, Shelf, Sink, write_all};
+use ss_base::{Shelf, Sink};
 use std::alloc::Global;
 use std::sync::Wait;
 use std::thread::Threads;
-
-// An end without a script that broke the partition rule.
-fn ended(status: Status) -> Ended
-    ensures status { result.status ≡ status }
-    ensures script { result.script ≡ None }
-{
-    Ended {
-        status,
-        script: None,
-    }
-}
-
-// Writes what a command prints. A script that broke off is kept, for the names of its objects.
-fn print<K: Sink>(out: &mut K, printed: Printed) -> Ended
-    ensures printed { IsPrinted K.Sink (printed_answer printed) result.status out.old out.new }
-    ensures script { (line : ℕ) (refusal : Refusal) → result.status ≡ Status.Refused line refusal →
-        (broken : Broken) × (printed.broken ≡ Some broken) × (result.script ≡ Some broken.script) }
-{
-    let Printed { text, broken } = printed;
-    if let Err(Failed) = write_all(out, &text) {
-        return ended(Status::WriteFault);
-    }
-    match broken {
-        None => ended(Status::Done),
-        Some(
-            Broken {
-                line,
-                refusal,
-                script,
-            },
-        ) => Ended {
-            status: Status::Refused { line, refusal },
-            script: Some(script),
-        },
-    }
-}
 
 // Does what a command asks for, with nothing told on the error stream.
 fn carry_out<R, L: Shelf, K: Sink>(
@@ -74,13 +37,8 @@ where
         IfTold (L.contents shelf.old) (λ told. script_names result.script
         ≡ names_in (Some command.now) (texts_held told (inputs_of command.now))) }
 {
-    match printed_by(rt, alloc, shelf, command) {
-        Ok(printed) => print(out, printed),
-        Err(NoText::ReadFault(which)) => ended(Status::ReadFault(which)),
-        Err(NoText::Limit(hit)) => ended(Status::Limit(hit)),
-        Err(NoText::Text(fault)) => ended(Status::Text(fault)),
-        Err(NoText::OutOfMemory) => ended(Status::OutOfMemory),
-    }
+    let given = printed_by(rt, alloc, shelf, command);
+    end_with(out, given)
 }
 
 /// Does what the words after the program's name ask for, and says how that ended.

@@ -1,15 +1,14 @@
-use Rattle.std.proofs.Common.{◌≡◌, ℕ, ◌+◌, ◌-◌, ◌<◌, ◌≤◌, ◌∙◌, ◌++◌, ◌∷◌, [], List, Some, None, Err}
+use Rattle.std.proofs.Common.{◌≡◌, ℕ, ◌+◌, ◌-◌, ◌∙◌, ◌++◌, ◌∷◌, [], List, Some, None, Err}
 use Rattle.std.proofs.Common.{length, map, slice_get, sym, ap, ap₂, subst, arith, inr, length-append}
-use Rattle.std.specs.Prelude.{IsSomeAnd}
 use Rattle.std.proofs.lemmas.List.{length-map, map-append}
 use Rattle.std.proofs.lemmas.Option.{slice_get_within}
 use Rattle.std.proofs.lemmas.Result.{err_from_is_err_and}
 use Rattle.ss_base.specs.declared.limits.TheConstants as limits
 use Rattle.ss_top.specs.declared.no_text.NoText.TheVariants.{ReadFault, Limit}
-use Rattle.ss_top.specs.Inputs.{Input, inputs_of, IsInputOf}
+use Rattle.ss_top.specs.Inputs.{Input, inputs_of}
 use Rattle.ss_top.specs.Limits.{limit_passed}
-use Rattle.ss_top.specs.Answers.{bytes_behind, bytes_after, limit_asked}
-use Rattle.ss_top.specs.Readings.{Reads, FailsAt, IsNeeded, IsOver}
+use Rattle.ss_top.specs.Answers.{bytes_behind, bytes_after}
+use Rattle.ss_top.specs.Readings.{Reads, FailsAt, IsOver}
 use Rattle.ss_top.proofs.AnswersLemmas.{bytes_after-none, bytes_after-more, IfCalledFor-limit}
 use Rattle.ss_top.proofs.InputsLemmas.{IsSome-name_of, none_past}
 use Rattle.ss_top.proofs.ReadingsLemmas.{Reads-none, Reads-more, AsksInOrder-next, FailsAt-next}

@@ -12,6 +12,8 @@ returns-in_default c =
       mode = c.pieces.options.1.0;
       ring = c.pieces.options.1.1.0;
       stop = c.pieces.options.1.1.1.0;
+      trace = c.pieces.options.1.1.1.1.0;
+      order = c.pieces.options.1.1.1.1.1.0;
     }) in
     let end : rest_pieces c.pieces.rest ≡ Some [] =
     rw c.in_default.is at c.in_ok-piece.ensures in

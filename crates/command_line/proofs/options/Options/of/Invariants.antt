@@ -13,6 +13,8 @@ invariant-pieces l =
       mode = l.options.1.0;
       ring = l.options.1.1.0;
       stop = l.options.1.1.1.0;
+      trace = l.options.1.1.1.1.0;
+      order = l.options.1.1.1.1.1.0;
     }))) (rest_pieces l.rest)
     ≡ option_and_then (given_behind nothing_given) (pieces (map string_bytes l.words) None)
 

@@ -1,6 +1,5 @@
-use Rattle.std.proofs.Common.{◌≡◌, ◌∙◌, List, ℕ, ap, sym, subst, map}
+use Rattle.std.proofs.Common.{◌∙◌, ap, subst}
 use Rattle.std.proofs.lemmas.Result.{IfOk-weaker}
-use Rattle.index_definitions.specs.Index.{index}
 use Rattle.index_definitions.specs.Words.{terms_in}
 use Rattle.index_definitions.specs.Terms.{HaveSameTerms}
 use Rattle.index_definitions.specs.IndexText.{text_of_index}
