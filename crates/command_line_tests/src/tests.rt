@@ -28,10 +28,24 @@ fn told(alloc: Global, command: &Command) -> Result<String, Fail> {
             delegates,
             mode,
             ring,
+            trace,
             name,
         } => {
+            let run = format!(in alloc; "{delegates} {mode:?} {ring}")?;
+            let shown = if *trace { " with its trace" } else { "" };
             let name = name.as_str();
-            Ok(format!(in alloc; "script {delegates} {mode:?} {ring} {name}")?)
+            Ok(format!(in alloc; "script {run}{shown} {name}")?)
+        }
+        Command::Replay {
+            delegates,
+            order,
+            script,
+            schedule,
+        } => {
+            let shown = if *order { " with its order" } else { "" };
+            let script = script.as_str();
+            let schedule = schedule.as_str();
+            Ok(format!(in alloc; "replay {delegates}{shown} {script} {schedule}")?)
         }
         Command::Gen {
             delegates,
@@ -55,7 +69,16 @@ fn words_of(alloc: Global, words: &[&str]) -> Result<Vec<String>, Fail> {
     Ok(list)
 }
 
-const COMMANDS: [(&[&str], &str); 48] = [
+// What a line is: its command as one line, or the text of its error.
+fn answered(alloc: Global, line: &[&str]) -> Result<String, Fail> {
+    let words = words_of(alloc, line)?;
+    match command_of(alloc, &words) {
+        Ok(command) => told(alloc, &command),
+        Err(fault) => Ok(format!(in alloc; "{fault}")?),
+    }
+}
+
+const COMMANDS: [(&[&str], &str); 67] = [
     (&["index", "a"], "index 4 Lanes 256 a"),
     (&["index", "-"], "index 4 Lanes 256 -"),
     (&["index", "a", "b", "a"], "index 4 Lanes 256 a b a"),
@@ -163,6 +186,65 @@ const COMMANDS: [(&[&str], &str); 48] = [
         &["script", "s", "--mode=batch", "--ring", "4096"],
         "script 4 Batch 4096 s",
     ),
+    // A trace, in each place, and behind `--` a name.
+    (
+        &["script", "--trace", "s"],
+        "script 4 Lanes 256 with its trace s",
+    ),
+    (
+        &["script", "s", "--trace"],
+        "script 4 Lanes 256 with its trace s",
+    ),
+    (
+        &["script", "--trace", "-"],
+        "script 4 Lanes 256 with its trace -",
+    ),
+    (
+        &["script", "--trace", "--", "--trace"],
+        "script 4 Lanes 256 with its trace --trace",
+    ),
+    (&["script", "--", "--trace"], "script 4 Lanes 256 --trace"),
+    (
+        &[
+            "script",
+            "--ring=1",
+            "--trace",
+            "s",
+            "--mode",
+            "batch",
+            "--delegates=0",
+        ],
+        "script 0 Batch 1 with its trace s",
+    ),
+    // A replay, with its delegates at their limits.
+    (&["replay", "s", "p"], "replay 4 s p"),
+    (&["replay", "-", "p"], "replay 4 - p"),
+    (&["replay", "s", "-"], "replay 4 s -"),
+    (&["replay", "-", "-"], "replay 4 - -"),
+    (&["replay", "s", "s"], "replay 4 s s"),
+    (&["replay", "--", "-s", "--order"], "replay 4 -s --order"),
+    (&["replay", "--delegates", "1", "s", "p"], "replay 1 s p"),
+    (&["replay", "s", "--delegates=64", "p"], "replay 64 s p"),
+    (
+        &["replay", "s", "p", "--delegates", "0000000001"],
+        "replay 1 s p",
+    ),
+    (
+        &["replay", "--order", "s", "p"],
+        "replay 4 with its order s p",
+    ),
+    (
+        &["replay", "s", "--order", "p"],
+        "replay 4 with its order s p",
+    ),
+    (
+        &["replay", "s", "p", "--order"],
+        "replay 4 with its order s p",
+    ),
+    (
+        &["replay", "s", "--order", "--delegates", "2", "--", "-p"],
+        "replay 2 with its order s -p",
+    ),
     (&["gen", "1", "3", "0"], "gen 4 Lanes 256 1 3 0"),
     (
         &["gen", "4294967295", "4294967295", "2147483647"],
@@ -187,19 +269,13 @@ const COMMANDS: [(&[&str], &str); 48] = [
 fn options_and_other_words_stand_in_any_order(rt: HostRuntime) -> Result<(), Fail> {
     let alloc = rt.alloc();
     for (line, wanted) in &COMMANDS {
-        let words = words_of(alloc, *line)?;
-        match command_of(alloc, &words) {
-            Ok(command) => {
-                let text = told(alloc, &command)?;
-                assert_eq!(rt; text.as_str().as_bytes(), wanted.as_bytes(), "at {wanted}");
-            }
-            Err(fault) => assert!(rt; false, "{wanted}: {fault}"),
-        }
+        let answer = answered(alloc, *line)?;
+        assert_eq!(rt; answer.as_str(), *wanted);
     }
     Ok(())
 }
 
-const USAGE: [&[&str]; 102] = [
+const NO_COMMAND: [&[&str]; 9] = [
     &[],
     &[""],
     &["help"],
@@ -207,10 +283,21 @@ const USAGE: [&[&str]; 102] = [
     &["-h"],
     &["--version"],
     &["Index", "a"],
-    &["replay", "a", "b"],
-    &["replay", "--delegates", "0", "a", "b"],
     &["--", "index", "a"],
     &["--delegates", "1", "index", "a"],
+];
+
+#[test]
+fn what_names_no_command_is_usage(rt: HostRuntime) -> Result<(), Fail> {
+    let alloc = rt.alloc();
+    for line in &NO_COMMAND {
+        let answer = answered(alloc, *line)?;
+        assert_eq!(rt; answer.as_str(), "the words are no command");
+    }
+    Ok(())
+}
+
+const NO_INDEX: [&[&str]; 68] = [
     &["index"],
     &["index", "--help"],
     &["index", "-h", "a"],
@@ -281,18 +368,96 @@ const USAGE: [&[&str]; 102] = [
     &["index", "--stop", "--ring=1", "a"],
     &["index", "--stop", "s", "--stop", "s", "a"],
     &["index", "--stop=s", "a", "--stop", "t"],
+];
+
+#[test]
+fn what_is_no_index_is_usage(rt: HostRuntime) -> Result<(), Fail> {
+    let alloc = rt.alloc();
+    for line in &NO_INDEX {
+        let answer = answered(alloc, *line)?;
+        assert_eq!(rt; answer.as_str(), "the words are no command");
+    }
+    Ok(())
+}
+
+const NO_SCRIPT: [&[&str]; 21] = [
     &["script"],
     &["script", ""],
     &["script", "-s"],
     &["script", "a", "b"],
     &["script", "--", "a", "b"],
     &["script", "--help"],
-    &["script", "--trace", "s"],
-    &["script", "--trace=1", "s"],
     &["script", "--stop", "t", "s"],
     &["script", "--stop=t", "s"],
     &["script", "--ring", "0", "s"],
     &["script", "--delegates", "65", "s"],
+    // A trace without a script, with a value, twice, and misspelt.
+    &["script", "--trace"],
+    &["script", "--trace=", "s"],
+    &["script", "--trace=1", "s"],
+    &["script", "--trace=s"],
+    &["script", "--trace", "s", "t"],
+    &["script", "--trace", "--trace", "s"],
+    &["script", "--trace", "s", "--trace"],
+    &["script", "--Trace", "s"],
+    &["script", "-trace", "s"],
+    &["script", "--traces", "s"],
+    &["script", "--order", "s"],
+];
+
+#[test]
+fn what_is_no_script_is_usage(rt: HostRuntime) -> Result<(), Fail> {
+    let alloc = rt.alloc();
+    for line in &NO_SCRIPT {
+        let answer = answered(alloc, *line)?;
+        assert_eq!(rt; answer.as_str(), "the words are no command");
+    }
+    Ok(())
+}
+
+const NO_REPLAY: [&[&str]; 27] = [
+    // A replay of too few names or too many, and what isn't an option of it.
+    &["replay"],
+    &["replay", "s"],
+    &["replay", "s", "p", "q"],
+    &["replay", "--order"],
+    &["replay", "--order", "s"],
+    &["replay", "s", ""],
+    &["replay", "", "p"],
+    &["replay", "--", "s"],
+    &["replay", "--", "s", ""],
+    &["replay", "-s", "p"],
+    &["replay", "--help"],
+    &["replay", "--trace", "s", "p"],
+    &["replay", "--mode", "lanes", "s", "p"],
+    &["replay", "--mode=batch", "s", "p"],
+    &["replay", "--ring", "1", "s", "p"],
+    &["replay", "--ring=256", "s", "p"],
+    &["replay", "--stop", "t", "s", "p"],
+    &["replay", "--stop=t", "s", "p"],
+    // Delegates of a replay out of their bounds, and an order with a value, and twice.
+    &["replay", "--delegates", "0", "s", "p"],
+    &["replay", "--delegates=0", "s", "p"],
+    &["replay", "--delegates", "65", "s", "p"],
+    &["replay", "--delegates=", "s", "p"],
+    &["replay", "s", "p", "--delegates"],
+    &["replay", "--delegates", "1", "--delegates", "1", "s", "p"],
+    &["replay", "--order=", "s", "p"],
+    &["replay", "--order=1", "s", "p"],
+    &["replay", "--order", "s", "--order", "p"],
+];
+
+#[test]
+fn what_is_no_replay_is_usage(rt: HostRuntime) -> Result<(), Fail> {
+    let alloc = rt.alloc();
+    for line in &NO_REPLAY {
+        let answer = answered(alloc, *line)?;
+        assert_eq!(rt; answer.as_str(), "the words are no command");
+    }
+    Ok(())
+}
+
+const NO_GEN: [&[&str]; 13] = [
     &["gen", "1", "1"],
     &["gen", "1", "1", "1", "1"],
     &["gen", "0", "1", "1"],
@@ -304,20 +469,16 @@ const USAGE: [&[&str]; 102] = [
     &["gen", "1", "", "1"],
     &["gen", "--", "1", "-1", "1"],
     &["gen", "--stop", "s", "1", "1", "1"],
+    &["gen", "--trace", "1", "1", "1"],
+    &["gen", "--order", "1", "1", "1"],
 ];
 
 #[test]
-fn what_is_no_command_is_usage(rt: HostRuntime) -> Result<(), Fail> {
+fn what_is_no_gen_is_usage(rt: HostRuntime) -> Result<(), Fail> {
     let alloc = rt.alloc();
-    for line in USAGE {
-        let words = words_of(alloc, line)?;
-        match command_of(alloc, &words) {
-            Ok(command) => {
-                let text = told(alloc, &command)?;
-                assert_eq!(rt; text.as_str(), "usage");
-            }
-            Err(fault) => assert_eq!(rt; fault, WordsFault::Usage),
-        }
+    for line in &NO_GEN {
+        let answer = answered(alloc, *line)?;
+        assert_eq!(rt; answer.as_str(), "the words are no command");
     }
     Ok(())
 }
