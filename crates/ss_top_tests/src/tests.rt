@@ -6,6 +6,7 @@ mod delegates;
 mod faults;
 mod generated;
 mod index;
+mod replay;
 mod script;
 mod usage;
 

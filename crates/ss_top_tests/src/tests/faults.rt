@@ -39,6 +39,8 @@ const GEN: &[&str] = &["gen", "1", "8388608", "0"];
 
 const SCRIPT: &[&str] = &["script", "s"];
 
+const REPLAY: &[&str] = &["replay", "a", "b"];
+
 type Case = (
     &'static [&'static str],
     &'static [Held],
@@ -48,7 +50,7 @@ type Case = (
     &'static str,
 );
 
-const CASES: [Case; 22] = [
+const CASES: [Case; 26] = [
     (
         TWO,
         TWO_NAMES,
@@ -178,6 +180,23 @@ const CASES: [Case; 22] = [
         "",
         "ssidx: cannot read s\n",
     ),
+    // An empty script takes two calls, its open and the read of its end.
+    (
+        REPLAY,
+        &[("a", 1, b""), ("b", 1, b"p")],
+        (&[1], &[], &[]),
+        Status::ReadFault(Which::Script),
+        "",
+        "ssidx: cannot read a\n",
+    ),
+    (
+        REPLAY,
+        &[("a", 1, b""), ("b", 1, b"p")],
+        (&[2], &[], &[]),
+        Status::ReadFault(Which::Schedule),
+        "",
+        "ssidx: cannot read b\n",
+    ),
     // The status hangs on nothing that is told.
     (&[], &[], (&[], &[], &[0]), Status::Usage, "", ""),
     (
@@ -204,6 +223,23 @@ const CASES: [Case; 22] = [
         Status::Limit(LimitHit::ScriptBytes),
         "",
         "ssidx: limit: script is over 1048576 bytes\n",
+    ),
+    (
+        REPLAY,
+        &[("a", 1, b""), ("b", 1_048_577, b" ")],
+        (&[], &[], &[]),
+        Status::Limit(LimitHit::ScheduleBytes),
+        "",
+        "ssidx: limit: schedule is over 1048576 bytes\n",
+    ),
+    // The script's lines are counted before the schedule is opened.
+    (
+        REPLAY,
+        &[("a", 65_537, b"\n")],
+        (&[], &[], &[]),
+        Status::Limit(LimitHit::ScriptLines),
+        "",
+        "ssidx: limit: script is over 65536 lines\n",
     ),
     (
         STOP,

@@ -3,7 +3,7 @@ use crate::tests::{shelf_of, sink, words_of};
 use ss_top::{GenFault, LimitHit, Status, run, tell_memory, tell_usage};
 use std::test::Fail;
 
-const USAGE: &str =
+pub(crate) const USAGE: &str =
     "usage: ssidx index [--delegates N] [--mode lanes|batch] [--ring N] [--stop FILE] NAME...
        ssidx script [--delegates N] [--mode lanes|batch] [--ring N] [--trace] NAME
        ssidx replay [--delegates N] [--order] SCRIPT SCHEDULE
@@ -14,13 +14,14 @@ const USAGE: &str =
 fn what_is_no_command_is_usage(rt: HostRuntime) -> Result<(), Fail> {
     let alloc = rt.alloc();
     // The tables of `command_line_tests` have all of them.
-    let lines: [&[&str]; 8] = [
+    let lines: [&[&str]; 9] = [
         &[],
         &["index"],
         &["index", "--ring", "0", "-"],
         &["index", "--ring", "1", "--ring", "1", "-"],
         &["script", "a", "b"],
-        &["script", "--trace", "s"],
+        &["script", "--order", "s"],
+        &["replay", "a", "b", "c"],
         &["replay", "--delegates", "0", "a", "b"],
         &["gen", "--stop", "s", "1", "1", "1"],
     ];
