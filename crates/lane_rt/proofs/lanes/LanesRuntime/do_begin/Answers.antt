@@ -1,0 +1,27 @@
+use Rattle.std.proofs.Common.{refl, sym, ◌∙◌}
+use Rattle.delegation.proofs.runs.FrontLemmas.{fronts_same}
+use Rattle.lane_rt.proofs.CallLemmas.{closed_from, store_done}
+use Rattle.lane_ends.specs.Workers.{home_given}
+use Rattle.lane_rt.proofs.lanes.LanesRuntime.do_begin.Goals as goal
+
+pub returns-clause-answered : goal.returns-clause-answered
+returns-clause-answered g c =
+    let usable = c.requires.usable in
+    let kept = c.args.self.now.kept usable in
+    let store = c.args.self.now.store in
+    let idle = kept.idle (closed_from c.args.self.now.marks.is_open _ _
+    c.in_ok-begin.ensures.judged) in (
+      record {
+        allowed = c.in_ok-begin.ensures.judged;
+        delegates = refl;
+        state = refl;
+        marks = c.in_ok-begin.ensures.after;
+        sent = refl;
+        logs = fronts_same store.logs.items;
+        done = store_done g.C.Class.meaning home_given store _ (kept.log_count ∙ sym kept.lane_count) (λ closed. idle);
+        reclaimed = tt;
+        was_usable = usable;
+        usable = usable;
+      },
+      refl,
+    )
