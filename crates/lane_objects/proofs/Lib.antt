@@ -1,4 +1,0 @@
-pub mod ListLemmas
-pub mod OutcomeLemmas
-pub mod RunLemmas
-pub mod HomeLemmas

@@ -1,3 +1,0 @@
-pub mod Hires
-pub mod Kept
-pub mod Seen

@@ -1,3 +1,0 @@
-pub mod StoreLemmas
-pub mod IdleLemmas
-mod CallLemmas
