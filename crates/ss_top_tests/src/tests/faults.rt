@@ -4,7 +4,10 @@ use crate::tests::words_of;
 use ss_base::{MemShelf, MemSink, Text};
 use ss_top::{LimitHit, Status, Which, run};
 use std::alloc::Global;
+use std::process::Abort;
+use std::sync::Wait;
 use std::test::Fail;
+use std::thread::Threads;
 
 // What a name holds: so many times these bytes.
 type Held = (&'static str, usize, &'static [u8]);
@@ -267,10 +270,12 @@ fn files_of(alloc: Global, names: &[Held]) -> Result<Vec<(Text, Vec<u8>)>, Fail>
     Ok(files)
 }
 
-#[test]
-fn what_fails_or_is_too_much_ends_the_run_and_is_told(rt: HostRuntime) -> Result<(), Fail> {
-    let alloc = rt.alloc();
-    for (place, (words, names, failing, ends, printed, told)) in CASES.iter().enumerate() {
+// Runs each of these cases.
+fn check_all<R>(rt: R, alloc: Global, cases: &[Case]) -> Result<(), Fail>
+where
+    R: Abort + Threads + Wait + Copy + Send + Sync + 'static,
+{
+    for (place, (words, names, failing, ends, printed, told)) in cases.iter().enumerate() {
         let words = words_of(alloc, words)?;
         let (reads, writes, tells) = failing;
         let mut shelf = MemShelf::new(files_of(alloc, names)?, reads.to_vec(alloc)?, 4096);
@@ -282,6 +287,11 @@ fn what_fails_or_is_too_much_ends_the_run_and_is_told(rt: HostRuntime) -> Result
         assert_eq!(rt; err.bytes(), told.as_bytes(), "case {place}");
     }
     Ok(())
+}
+
+#[test]
+fn what_fails_or_is_too_much_ends_the_run_and_is_told(rt: HostRuntime) -> Result<(), Fail> {
+    check_all(rt, rt.alloc(), &CASES)
 }
 
 #[test]
