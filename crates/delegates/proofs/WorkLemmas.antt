@@ -118,6 +118,46 @@ module _ {C O R : Type 0} (m : Meaning C O R) where
   pub returned_as_it_was : (h : Home C O R) → HasReturned m h h
   returned_as_it_was h = record { messages = []; took = took_none h }
 
+  -- a home comes back with one message more
+  pub returned_more : (h : Home C O R) (s s' : Store C O R) (r r' : Receiver C O R)
+      (x : Message C O R) → HasReturned m h (record { store = s; receiver = r }) →
+      IsSameReceiver r r' → received r' ≡ received r ++ x ∷ [] →
+      ((stored s').is_broken ≡ false → stored s' ≡ taken m (stored s) x) →
+      (changes_nothing (stored s) x ≡ true → stored s' ≡ stored s) →
+      HasReturned m h (record { store = s'; receiver = r' })
+  returned_more h s s' r r' x before end more takes same = record {
+    messages = before.messages ++ x ∷ [];
+    took = took_more h s s' r r' before.messages x before.took end more takes same;
+  }
+
+  stored_on : (s t u : Stored C R) (xs ys : List (Message C O R)) → HasStored m s t xs →
+      HasStored m t u ys → HasStored m s u (xs ++ ys)
+  stored_on s t u xs ys first second = record {
+    folds = λ whole.
+        let was = was_whole t u t.is_broken refl second.drops whole in
+        second.folds whole ∙ ap (λ v. folded m v ys) (first.folds was)
+        ∙ sym (fold-append (taken m) s xs ys);
+    drops = λ broken.
+        let still = first.drops broken in
+        second.drops (ap (λ (v : Stored C R). v.is_broken) still ∙ broken) ∙ still;
+  }
+
+  -- and a home that came back does so again
+  pub returned_on : (h k l : Home C O R) → HasReturned m h k → HasReturned m k l →
+      HasReturned m h l
+  returned_on h k l first second = record {
+    messages = first.messages ++ second.messages;
+    took = record {
+      receiver = same_receiver h.receiver k.receiver l.receiver first.took.receiver
+          second.took.receiver;
+      received = second.took.received
+          ∙ ap (λ v. v ++ second.messages) first.took.received
+          ∙ append_assoc _ first.messages second.messages;
+      store = stored_on (stored h.store) (stored k.store) (stored l.store) first.messages
+          second.messages first.took.store second.took.store;
+    };
+  }
+
   -- a delegate that worked brings its home back
   returned_worked : (h k : Home C O R) → HasWorked m h k → HasReturned m h k
   returned_worked h k worked =

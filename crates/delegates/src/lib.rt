@@ -17,4 +17,4 @@ pub use home::{Home, work};
 pub use pair_gate::PairGate;
 pub use sleeper::{Bell, Sleeper, make_bell};
 pub use store::Store;
-pub use worker::{DelegateJob, Started, Worker, home_in, start, take_home};
+pub use worker::{DelegateJob, Started, Worker, home_in, make_errand, start, take_home};

@@ -56,8 +56,8 @@ pub enum Started<C: Class + 'static, G: Gate + 'static> {
     AtHome(Home<C>),
 }
 
-// A delegate's work, with what wakes it, or the home where there is no memory.
-fn make_errand<C: LocalClass, G: LocalGate>(
+/// A delegate's work, with what wakes it, or the home where there is no memory.
+pub fn make_errand<C: LocalClass, G: LocalGate>(
     alloc: Global,
     home: Home<C>,
     gate: Arc<G>,
