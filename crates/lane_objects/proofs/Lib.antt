@@ -1,0 +1,4 @@
+pub mod ListLemmas
+pub mod OutcomeLemmas
+pub mod RunLemmas
+pub mod HomeLemmas
