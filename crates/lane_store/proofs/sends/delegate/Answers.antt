@@ -1,0 +1,80 @@
+use Rattle.std.proofs.Common.{refl, length, sym, ap, ◌∙◌, Some, arith}
+use Rattle.std.proofs.lemmas.Option.{slice_get_read}
+use Rattle.std.proofs.lemmas.Result.{on_ok_weaker}
+use Rattle.lane_objects.specs.Objects.{found_in}
+use Rattle.lane_store.proofs.StoreLemmas.{continues_on, sends_after}
+use Rattle.lane_store.proofs.sends.delegate.Goals as goal
+
+pub follow-requires : goal.follow-requires
+follow-requires g c =
+    let store = c.share.new.store in
+    let on = c.in_ok-reading.ensures.continues in
+    let o = c.args.run.object.0 in
+    let known = c.requires.known in
+    let lane = c.requires.lane in
+    let objects = on.objects in
+    let lanes = on.lanes in
+    let at = slice_get_read store.objects.items (length store.objects.items) o c.index.result.now
+    refl (omega (arith, known, objects)) c.index.ensures in
+    let there = c.is_there.ensures c.if-is_there.true in
+    let found = ap found_in at ∙ there.1 in
+    record {
+      can = c.requires.can;
+      means = c.requires.means;
+      whole = on.whole;
+      lane = omega (arith, lane, lanes);
+      logged = sym on.logs.count ∙ c.requires.logged ∙ sym on.lanes;
+      there = found ∙ ap (λ n. Some (c.args.lane, n))
+          (on.whole.apart.number o c.args.lane there.0 found);
+    }
+
+pub bring_object_home-requires : goal.bring_object_home-requires
+bring_object_home-requires g c =
+    let on = c.in_ok-reading.ensures.continues in
+    let known = c.requires.known in
+    let objects = on.objects in
+    record {
+      whole = on.whole;
+      logged = sym on.logs.count ∙ c.requires.logged ∙ sym on.lanes;
+      known = omega (arith, known, objects);
+    }
+
+pub carry-requires : goal.carry-requires
+carry-requires g c =
+    let on = c.in_ok-reading.ensures.continues in
+    let home = c.in_ok-bring_object_home.ensures in
+    let known = c.requires.known in
+    let lane = c.requires.lane in
+    let objects = home.continues.objects ∙ on.objects in
+    let lanes = home.continues.lanes ∙ on.lanes in
+    record {
+      can = c.requires.can;
+      means = c.requires.means;
+      whole = home.continues.whole;
+      lane = omega (arith, lane, lanes);
+      logged = sym home.continues.logs.count ∙ sym on.logs.count ∙ c.requires.logged ∙ sym lanes;
+      known = omega (arith, known, objects);
+      home = home.home;
+    }
+
+pub returns-then-is_there : goal.returns-then-is_there
+returns-then-is_there g c =
+    let m = g.C.LocalClass.local_meaning in
+    let home_of = g.W.LaneWorker.home_of in
+    let read = c.in_ok-reading.ensures in
+    on_ok_weaker c.follow.result
+    (λ sends. sends_after m home_of c.args.store.now c.share.new.store c.follow.new.store
+    c.args.lane c.args.run c.args.op _ _ read.continues read.value sends)
+    c.follow.ensures
+
+pub returns : goal.returns
+returns g c =
+    let m = g.C.LocalClass.local_meaning in
+    let home_of = g.W.LaneWorker.home_of in
+    let read = c.in_ok-reading.ensures in
+    on_ok_weaker c.carry.result
+    (λ sends. sends_after m home_of c.args.store.now c.bring_object_home.new.store
+    c.carry.new.store c.args.lane c.args.run c.args.op _ _
+    (continues_on m home_of c.args.store.now c.share.new.store c.bring_object_home.new.store
+    read.continues c.in_ok-bring_object_home.ensures.continues) read.value sends)
+    c.carry.ensures
