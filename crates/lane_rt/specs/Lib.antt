@@ -1,0 +1,3 @@
+pub mod Hires
+pub mod Kept
+pub mod Seen
