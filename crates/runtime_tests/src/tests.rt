@@ -6,14 +6,17 @@ ghost use Rattle.script_lang.specs.Acts.{script_meaning};
 use crate::cases::{Answer, CASES, Case, LISTS, Listed, Step, refused};
 use crate::scarce::{Need, Scarce};
 use batch_rt::Batch;
+use delegates::OpenGate;
 use delegation::{Call, Delegation, Fault, Plain, Reply, make_call, run_calls};
 use execution_definitions::By;
+use lane_rt::Lanes;
 use script_lang::{Act, Deed, Word32};
 use serializer::lane_of;
+use ss_base::limits::RING;
 use ss_base::{CallNo, LaneLog, ObjectId, Run, SetId};
 use std::alloc::Global;
 use std::process::Abort;
-use std::sync::Wait;
+use std::sync::{Arc, Wait};
 use std::test::Fail;
 use std::thread::Threads;
 
@@ -279,6 +282,55 @@ fn batch_fails_for_good(rt: HostRuntime) -> Result<(), Fail> {
     for delegates in DELEGATES {
         assert!(rt; 1 <= delegates && delegates <= 64);
         fails_for_good(&rt, Batch::new(rt.alloc(), delegates)?, Answer::Done);
+    }
+    Ok(())
+}
+
+// The room of lanes that the tables are gone through with.
+const RINGS: [usize; 3] = [1, 2, 256];
+
+#[test]
+fn lanes_pass_all_cases(rt: HostRuntime) -> Result<(), Fail> {
+    for delegates in DELEGATES {
+        assert!(rt; 1 <= delegates && delegates <= 64);
+        for ring in RINGS {
+            assert!(rt; 1 <= ring && ring <= RING as usize);
+            for case in CASES {
+                let gate = Arc::new(rt.alloc(), OpenGate)?;
+                let d = Lanes::new(rt.alloc(), delegates, ring, gate)?;
+                passes(&rt, rt.alloc(), d, delegates, case);
+            }
+        }
+    }
+    Ok(())
+}
+
+#[test]
+fn lanes_run_lists(rt: HostRuntime) -> Result<(), Fail> {
+    for delegates in DELEGATES {
+        assert!(rt; 1 <= delegates && delegates <= 64);
+        for ring in RINGS {
+            assert!(rt; 1 <= ring && ring <= RING as usize);
+            for list in LISTS {
+                let gate = Arc::new(rt.alloc(), OpenGate)?;
+                let mut d = Lanes::new(rt.alloc(), delegates, ring, gate)?;
+                runs_a_list(&rt, rt.alloc(), &mut d, list)?;
+            }
+        }
+    }
+    Ok(())
+}
+
+#[test]
+fn lanes_fail_for_good(rt: HostRuntime) -> Result<(), Fail> {
+    for delegates in DELEGATES {
+        assert!(rt; 1 <= delegates && delegates <= 64);
+        let gate = Arc::new(rt.alloc(), OpenGate)?;
+        fails_for_good(
+            &rt,
+            Lanes::new(rt.alloc(), delegates, 2, gate)?,
+            Answer::Done,
+        );
     }
     Ok(())
 }
