@@ -1,11 +1,12 @@
 // The program as a process: the top call on real files and streams, and the exit status.
 
 use crate::{ArgumentsFault, FileShelf, MessageSink, StdSink};
+use delegates::OpenGate;
 use ss_top::{run, tell_memory, tell_usage};
 use std::fs::Files;
 use std::io::{Read, Write};
 use std::process::ExitCode;
-use std::sync::Wait;
+use std::sync::{Arc, Wait};
 use std::thread::Threads;
 
 const USAGE: u8 = 2;
@@ -26,8 +27,9 @@ where
     R: Files + AllocGlobal + Threads + Wait + Drop + Copy + Send + Sync + 'static,
 {
     let mut err = MessageSink::new(err);
-    let code = match words {
-        Ok(words) => {
+    let gate = Arc::new(rt.alloc(), OpenGate);
+    let code = match (words, gate) {
+        (Ok(words), Ok(gate)) => {
             let mut shelf = FileShelf::new(*rt, input);
             let status = run(
                 rt,
@@ -36,14 +38,15 @@ where
                 &mut shelf,
                 &mut StdSink::new(out),
                 &mut err,
+                gate,
             );
             status.code()
         }
-        Err(ArgumentsFault::NotText) => {
+        (Err(ArgumentsFault::NotText), _) => {
             tell_usage(&mut err);
             USAGE
         }
-        Err(ArgumentsFault::OutOfMemory) => {
+        (Err(ArgumentsFault::OutOfMemory), _) | (Ok(_), Err(_)) => {
             tell_memory(&mut err);
             OUT_OF_MEMORY
         }

@@ -20,16 +20,18 @@ mod runtime;
 mod script;
 mod shown;
 
+use crate::commands::runtime::How;
 use crate::inputs::read_inputs;
 use crate::no_text::NoText;
 use crate::{LimitHit, TextFault, Which};
 use command_line::Command;
+use delegates::Gate;
 use execution_definitions::Refusal;
 use script_lang::Script;
 use ss_base::Shelf;
 use ss_base::limits::NAMES;
 use std::alloc::Global;
-use std::sync::Wait;
+use std::sync::{Arc, Wait};
 use std::thread::Threads;
 
 /// What a command prints, and where a script breaks off, if it does.
@@ -76,11 +78,12 @@ fn names_over(command: &Command) -> Option<LimitHit>
 }
 
 // The text that a command prints, by the texts of its inputs, which pass no limit.
-fn text_by<R>(
+fn text_by<R, G: Gate + 'static>(
     rt: &R,
     alloc: Global,
     command: &Command,
     mut texts: Vec<Vec<u8>>,
+    gate: Arc<G>,
 ) -> Result<Printed, NoText>
 where
     R: Threads + Wait + Copy + Send + Sync + 'static,
@@ -103,23 +106,33 @@ where
     match command {
         Command::Index {
             delegates,
+            mode,
+            ring,
             stop,
             ..
-        } => match stop {
-            None => {
-                let stop = Vec::new(alloc);
-                Ok(whole(index::index_text(rt, alloc, *delegates, stop, texts)?))
+        } => {
+            let how = How::of(*delegates, *mode, *ring, gate);
+            match stop {
+                None => {
+                    let stop = Vec::new(alloc);
+                    Ok(whole(index::index_text(rt, alloc, how, stop, texts)?))
+                }
+                Some(_) => {
+                    let stop = texts.remove(0);
+                    Ok(whole(index::index_text(rt, alloc, how, stop, texts)?))
+                }
             }
-            Some(_) => {
-                let stop = texts.remove(0);
-                Ok(whole(index::index_text(rt, alloc, *delegates, stop, texts)?))
-            }
-        },
+        }
         Command::Script {
             delegates,
+            mode,
+            ring,
             trace,
             ..
-        } => Ok(script::script_text(rt, alloc, *delegates, *trace, &texts[0])?),
+        } => {
+            let how = How::of(*delegates, *mode, *ring, gate);
+            Ok(script::script_text(rt, alloc, how, *trace, &texts[0])?)
+        }
         Command::Replay {
             delegates,
             order,
@@ -127,20 +140,25 @@ where
         } => replay::replay_text(alloc, *delegates, *order, &texts[0], &texts[1]),
         Command::Gen {
             delegates,
+            mode,
+            ring,
             docs,
             words,
             seed,
-            ..
-        } => Ok(whole(generated::summary_text(rt, alloc, *delegates, *docs, *words, *seed)?)),
+        } => {
+            let how = How::of(*delegates, *mode, *ring, gate);
+            Ok(whole(generated::summary_text(rt, alloc, how, *docs, *words, *seed)?))
+        }
     }
 }
 
 /// The text that a command prints.
-pub(crate) fn printed_by<R, L: Shelf>(
+pub(crate) fn printed_by<R, L: Shelf, G: Gate + 'static>(
     rt: &R,
     alloc: Global,
     shelf: &mut L,
     command: &Command,
+    gate: Arc<G>,
 ) -> Result<Printed, NoText>
 where
     R: Threads + Wait + Copy + Send + Sync + 'static,
@@ -164,7 +182,7 @@ where
         return Err(NoText::Limit(hit));
     }
     let texts = read_inputs(alloc, shelf, command)?;
-    text_by(rt, alloc, command, texts)
+    text_by(rt, alloc, command, texts, gate)
 }
 
 /// The text that a replay on so many lanes prints. It starts no thread, and never waits.

@@ -13,19 +13,21 @@ use crate::commands::printed_by;
 use crate::ending::{Ended, end_with};
 use crate::tell::{tell_memory, tell_status, tell_usage};
 use command_line::{Command, WordsFault, command_of};
+use delegates::Gate;
 use execution_definitions::Refusal;
 use ss_base::{Shelf, Sink};
 use std::alloc::Global;
-use std::sync::Wait;
+use std::sync::{Arc, Wait};
 use std::thread::Threads;
 
 // Does what a command asks for, with nothing told on the error stream.
-fn carry_out<R, L: Shelf, K: Sink>(
+fn carry_out<R, L: Shelf, K: Sink, G: Gate + 'static>(
     rt: &R,
     alloc: Global,
     command: &Command,
     shelf: &mut L,
     out: &mut K,
+    gate: Arc<G>,
 ) -> Ended
 where
     R: Threads + Wait + Copy + Send + Sync + 'static,
@@ -37,7 +39,7 @@ where
         IfTold (L.contents shelf.old) (λ told. script_names result.script
         ≡ names_in (Some command.now) (texts_held told (inputs_of command.now))) }
 {
-    let given = printed_by(rt, alloc, shelf, command);
+    let given = printed_by(rt, alloc, shelf, command, gate);
     end_with(out, given)
 }
 
@@ -46,13 +48,16 @@ where
 /// The text is built whole, then written to `out`; so on each status but `Done`, `WriteFault` and
 /// `Refused` `out` gains nothing. A write fault comes before a script's refusal. On every status but
 /// `Done` a text goes to `err`, and no status depends on whether that could be written.
-pub fn run<R, L: Shelf, K: Sink, E: Sink>(
+///
+/// Delegates in threads pass `gate` before each run of a delegated operation.
+pub fn run<R, L: Shelf, K: Sink, E: Sink, G: Gate + 'static>(
     rt: &R,
     alloc: Global,
     words: &[String],
     shelf: &mut L,
     out: &mut K,
     err: &mut E,
+    gate: Arc<G>,
 ) -> Status
 where
     R: Threads + Wait + Copy + Send + Sync + 'static,
@@ -70,7 +75,7 @@ where
 {
     match command_of(alloc, words) {
         Ok(command) => {
-            let ended = carry_out(rt, alloc, &command, shelf, out);
+            let ended = carry_out(rt, alloc, &command, shelf, out, gate);
             tell_status(err, &command, &ended);
             ended.status
         }

@@ -2,19 +2,20 @@
 // what the texts look like, and which calls of a shelf or a sink in memory fail.
 ghost use Rattle.std.specs.Prelude.{◌<◌};
 
-mod delegates;
 mod faults;
 mod generated;
 mod index;
+mod modes;
 mod replay;
 mod script;
 mod usage;
 
+use delegates::OpenGate;
 use ss_base::{MemShelf, MemSink, Text};
 use ss_top::{Status, run};
 use std::alloc::Global;
 use std::process::Abort;
-use std::sync::Wait;
+use std::sync::{Arc, Wait};
 use std::test::Fail;
 use std::thread::Threads;
 
@@ -45,6 +46,22 @@ pub(crate) fn words_of(alloc: Global, words: &[&str]) -> Result<Vec<String>, Fai
     Ok(list)
 }
 
+// Runs these words, with delegates that nothing holds up.
+pub(crate) fn run_open<R>(
+    rt: R,
+    alloc: Global,
+    words: &[String],
+    shelf: &mut MemShelf,
+    out: &mut MemSink,
+    err: &mut MemSink,
+) -> Result<Status, Fail>
+where
+    R: Threads + Wait + Copy + Send + Sync + 'static,
+{
+    let gate = Arc::new(alloc, OpenGate)?;
+    Ok(run(&rt, alloc, words, shelf, out, err, gate))
+}
+
 // A run over files in memory, and what it ends with and writes.
 pub(crate) struct Case {
     pub words: &'static [&'static str],
@@ -68,7 +85,7 @@ where
     let mut shelf = MemShelf::new(files, Vec::new(alloc), 4096);
     let mut out = sink(alloc)?;
     let mut err = sink(alloc)?;
-    let status = run(&rt, alloc, words, &mut shelf, &mut out, &mut err);
+    let status = run_open(rt, alloc, words, &mut shelf, &mut out, &mut err)?;
     let (ends, printed, told) = wanted;
     assert_eq!(rt; status, ends, "at {told}");
     assert_eq!(rt; out.bytes(), printed.as_bytes(), "at {told}");

@@ -8,11 +8,14 @@ ghost use Rattle.indexer.specs.Items.{item_meaning};
 ghost use Rattle.ss_base.specs.declared.limits.TheConstants as limits;
 ghost use Rattle.ss_top.specs.Limits.{first_limit};
 
-use crate::commands::runtime::with_runtime;
+use crate::commands::runtime::{How, with_runtime};
 use batch_rt::Batch;
+use command_line::Mode;
+use delegates::Gate;
 use delegation::{Delegation, Plain};
 use doc_words::StopSet;
 use indexer::{Index, Item, build};
+use lane_rt::Lanes;
 use ss_base::OutOfMemory;
 use std::alloc::Global;
 use std::sync::Wait;
@@ -38,16 +41,15 @@ fn index_on<D: Delegation<Item>, R: Threads + Wait + Copy + Send + Sync + 'stati
 }
 
 /// The index of documents that pass no limit, without the stopped terms.
-pub(crate) fn index_documents<R>(
+pub(crate) fn index_documents<R, G: Gate + 'static>(
     rt: &R,
     alloc: Global,
-    delegates: u32,
+    how: How<G>,
     documents: Vec<Vec<u8>>,
     stop: StopSet,
 ) -> Result<Index, OutOfMemory>
 where
     R: Threads + Wait + Copy + Send + Sync + 'static,
-    requires delegates { delegates ≤ 64 }
     requires few { length documents.items ≤ limits.NAMES }
     requires within { first_limit (map (λ document. document.items) documents.items) ≡ None }
     ensures { IfOk result (λ made. (list : List ℕ) → HaveSameTerms stop (terms_in list) →
@@ -56,7 +58,7 @@ where
     // The documents and the shards are given up before the index is printed.
     with_runtime!(
         alloc,
-        delegates,
+        how,
         |runtime| index_on(rt, alloc, runtime, documents, stop)
     )
 }

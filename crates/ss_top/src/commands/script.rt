@@ -14,10 +14,13 @@ ghost use Rattle.ss_top.specs.Texts.{names_listed};
 ghost use Rattle.ss_top.specs.declared.status.TextFault.TheVariants as text_fault;
 
 use crate::commands::Printed;
-use crate::commands::runtime::with_runtime;
+use crate::commands::runtime::{How, with_runtime};
 use crate::commands::shown::{printed, with_text};
 use batch_rt::Batch;
+use command_line::Mode;
+use delegates::Gate;
 use delegation::{Delegation, Finished, Plain};
+use lane_rt::Lanes;
 use report::{logs_have_the_programs_trace, print_trace};
 use script_lang::{ParseFault, Script, Shown, Word32, parse, run_script};
 use ss_base::{LaneLog, OutOfMemory};
@@ -61,37 +64,35 @@ fn shown_on<D: Delegation<Word32>, R: Threads + Wait + Copy + Send + Sync + 'sta
 }
 
 // Runs a script.
-fn show<R>(
+fn show<R, G: Gate + 'static>(
     rt: &R,
     alloc: Global,
-    delegates: u32,
+    how: How<G>,
     script: &Script,
     trace: bool,
 ) -> Result<Shown, OutOfMemory>
 where
     R: Threads + Wait + Copy + Send + Sync + 'static,
-    requires { delegates ≤ 64 }
     ensures { IfOk result (λ shown.
         shown ≡ followed trace (shown_of script.now) (trace_of script.now)) }
 {
     with_runtime!(
         alloc,
-        delegates,
+        how,
         |runtime| shown_on(rt, alloc, runtime, script, trace)
     )
 }
 
 /// What a script shows, with its trace where that is asked for.
-pub(crate) fn script_text<R>(
+pub(crate) fn script_text<R, G: Gate + 'static>(
     rt: &R,
     alloc: Global,
-    delegates: u32,
+    how: How<G>,
     trace: bool,
     script: &[u8],
 ) -> Result<Printed, ParseFault>
 where
     R: Threads + Wait + Copy + Send + Sync + 'static,
-    requires delegates { delegates ≤ 64 }
     requires bytes { length script.now ≤ limits.SCRIPT_BYTES }
     ensures answer { IfOk result (λ printed.
         traced_answer trace (listing_of script.now) ≡ printed_answer printed) }
@@ -101,6 +102,6 @@ where
         traced_answer trace (listing_of script.now) ≡ has_fault (text_fault.Script fault) }
 {
     let script = parse(alloc, script)?;
-    let shown = show(rt, alloc, delegates, &script, trace)?;
+    let shown = show(rt, alloc, how, &script, trace)?;
     Ok(printed(shown, script))
 }

@@ -1,8 +1,8 @@
 // What fails outside, by the numbers of the calls, and what passes a limit, as one table: the status,
 // what `out` holds then, and what is told. No clause says which calls of a shelf or a sink in memory fail.
-use crate::tests::words_of;
+use crate::tests::{run_open, words_of};
 use ss_base::{MemShelf, MemSink, Text};
-use ss_top::{LimitHit, Status, Which, run};
+use ss_top::{LimitHit, Status, Which};
 use std::alloc::Global;
 use std::process::Abort;
 use std::sync::Wait;
@@ -281,7 +281,7 @@ where
         let mut shelf = MemShelf::new(files_of(alloc, names)?, reads.to_vec(alloc)?, 4096);
         let mut out = MemSink::new(alloc, 8192, writes.to_vec(alloc)?, 8)?;
         let mut err = MemSink::new(alloc, 8192, tells.to_vec(alloc)?, 4096)?;
-        let status = run(&rt, alloc, &words, &mut shelf, &mut out, &mut err);
+        let status = run_open(rt, alloc, &words, &mut shelf, &mut out, &mut err)?;
         assert_eq!(rt; status, *ends, "case {place}");
         assert_eq!(rt; out.bytes(), printed.as_bytes(), "case {place}");
         assert_eq!(rt; err.bytes(), told.as_bytes(), "case {place}");
@@ -303,7 +303,7 @@ fn a_script_ends_as_it_does_where_nothing_can_be_told(rt: HostRuntime) -> Result
         let mut shelf = MemShelf::new(files, Vec::new(alloc), 4096);
         let mut out = MemSink::new(alloc, 8192, Vec::new(alloc), 8)?;
         let mut err = MemSink::new(alloc, 8192, vec![in alloc; 0]?, 4096)?;
-        let status = run(&rt, alloc, &words, &mut shelf, &mut out, &mut err);
+        let status = run_open(rt, alloc, &words, &mut shelf, &mut out, &mut err)?;
         assert_eq!(rt; status.code(), code);
         assert_eq!(rt; out.bytes(), b"".as_slice());
         assert_eq!(rt; err.bytes(), b"".as_slice());

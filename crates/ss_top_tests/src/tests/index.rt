@@ -1,7 +1,7 @@
 // `index`: documents, their limits, and inputs that aren't there.
-use crate::tests::{Case, check_cases, check_run, shelf_of, sink, words_of};
+use crate::tests::{Case, check_cases, check_run, run_open, shelf_of, sink, words_of};
 use ss_base::Text;
-use ss_top::{LimitHit, Status, Which, run};
+use ss_top::{LimitHit, Status, Which};
 use std::alloc::Global;
 use std::test::Fail;
 
@@ -51,7 +51,7 @@ fn a_document_is_indexed_whatever_the_chunks(rt: HostRuntime) -> Result<(), Fail
             let mut shelf = shelf_of(alloc, row.document.to_vec(alloc)?, &[], chunk)?;
             let mut out = sink(alloc)?;
             let mut err = sink(alloc)?;
-            let status = run(&rt, alloc, &words, &mut shelf, &mut out, &mut err);
+            let status = run_open(rt, alloc, &words, &mut shelf, &mut out, &mut err)?;
             assert_eq!(rt; status, Status::Done, "at {case}, {chunk}");
             assert_eq!(rt; out.bytes(), row.index.as_bytes(), "at {case}, {chunk}");
             assert_eq!(rt; err.bytes(), b"".as_slice(), "at {case}, {chunk}");
@@ -69,7 +69,7 @@ fn a_character_may_stand_across_two_reads(rt: HostRuntime) -> Result<(), Fail> {
     let mut shelf = shelf_of(alloc, document, &[], 4096)?;
     let mut out = sink(alloc)?;
     let mut err = sink(alloc)?;
-    let status = run(&rt, alloc, &words, &mut shelf, &mut out, &mut err);
+    let status = run_open(rt, alloc, &words, &mut shelf, &mut out, &mut err)?;
     assert_eq!(rt; status, Status::Done);
     let mut text = b"documents 1\nwords 1\nlongest 4096\nterms 1\n".to_vec(alloc)?;
     text.extend_from_slice(&vec![in alloc; b'x'; 4095]?)?;

@@ -1,8 +1,8 @@
 // `replay`, by itself and as one of the program's commands, and the traces of scripts.
 use crate::tests::usage::USAGE;
-use crate::tests::{Case, check_cases, files_of, sink, words_of};
+use crate::tests::{Case, check_cases, files_of, run_open, sink, words_of};
 use ss_base::MemShelf;
-use ss_top::{Status, TextFault, replay_run, run};
+use ss_top::{Status, TextFault, replay_run};
 use std::test::Fail;
 
 const SCRIPT: &[u8] = b"object x 5\nisolate\ndo x add 3\ndo x mul 2\njoin\nshow x\n";
@@ -172,7 +172,7 @@ fn a_break_is_told_and_ends_what_is_shown(rt: HostRuntime) -> Result<(), Fail> {
         let mut shelf = MemShelf::new(files, Vec::new(alloc), 4096);
         let mut out = sink(alloc)?;
         let mut err = sink(alloc)?;
-        let status = run(&rt, alloc, &words, &mut shelf, &mut out, &mut err);
+        let status = run_open(rt, alloc, &words, &mut shelf, &mut out, &mut err)?;
         assert_eq!(rt; status.code(), 7);
         assert_eq!(rt; out.bytes(), b"".as_slice());
         assert_eq!(rt; err.bytes(), TWO_SETS.as_bytes());

@@ -1,7 +1,7 @@
 // `script`: what scripts show, and where they stop.
-use crate::tests::{shelf_of, sink, words_of};
+use crate::tests::{run_open, shelf_of, sink, words_of};
 use ss_base::{MemShelf, MemSink, Text};
-use ss_top::{LimitHit, Status, Which, run};
+use ss_top::{LimitHit, Status, Which};
 use std::alloc::Global;
 use std::test::Fail;
 
@@ -161,7 +161,7 @@ fn scripts_are_run_up_to_the_first_break(rt: HostRuntime) -> Result<(), Fail> {
         let mut shelf = script_shelf(alloc, script.as_bytes().to_vec(alloc)?)?;
         let mut out = sink(alloc)?;
         let mut err = sink(alloc)?;
-        let status = run(&rt, alloc, &words, &mut shelf, &mut out, &mut err);
+        let status = run_open(rt, alloc, &words, &mut shelf, &mut out, &mut err)?;
         assert_eq!(rt; out.bytes(), shown.as_bytes(), "at {script}");
         assert_eq!(rt; err.bytes(), told.as_bytes(), "at {script}");
         assert_eq!(rt; status.code(), *code, "at {script}");
@@ -193,7 +193,7 @@ fn scripts_are_limited_by_bytes_and_then_by_lines(rt: HostRuntime) -> Result<(),
         let mut shelf = script_shelf(alloc, vec![in alloc; byte; count]?)?;
         let mut out = sink(alloc)?;
         let mut err = sink(alloc)?;
-        let status = run(&rt, alloc, &words, &mut shelf, &mut out, &mut err);
+        let status = run_open(rt, alloc, &words, &mut shelf, &mut out, &mut err)?;
         assert_eq!(rt; status, ends, "at {count}");
         assert_eq!(rt; out.bytes(), b"".as_slice(), "at {count}");
         assert_eq!(rt; err.bytes(), told.as_bytes(), "at {count}");
@@ -208,7 +208,7 @@ fn a_script_that_is_not_there_is_named(rt: HostRuntime) -> Result<(), Fail> {
     let mut shelf = script_shelf(alloc, b"total\n".to_vec(alloc)?)?;
     let mut out = sink(alloc)?;
     let mut err = sink(alloc)?;
-    let status = run(&rt, alloc, &words, &mut shelf, &mut out, &mut err);
+    let status = run_open(rt, alloc, &words, &mut shelf, &mut out, &mut err)?;
     assert_eq!(rt; status, Status::ReadFault(Which::Script));
     assert_eq!(rt; out.bytes(), b"".as_slice());
     assert_eq!(rt;
@@ -225,7 +225,7 @@ fn a_bad_line_is_an_error_that_says_so(rt: HostRuntime) -> Result<(), Fail> {
     let mut shelf = script_shelf(alloc, b"total\njump\n".to_vec(alloc)?)?;
     let mut out = sink(alloc)?;
     let mut err = sink(alloc)?;
-    let status = run(&rt, alloc, &words, &mut shelf, &mut out, &mut err);
+    let status = run_open(rt, alloc, &words, &mut shelf, &mut out, &mut err)?;
     let told = match status {
         Status::Text(fault) => format!(in alloc; "{fault}")?,
         _ => String::new(alloc),
@@ -243,7 +243,7 @@ fn a_failed_write_comes_before_a_break(rt: HostRuntime) -> Result<(), Fail> {
         let mut shelf = shelf_of(alloc, script.as_bytes().to_vec(alloc)?, &[], 4096)?;
         let mut out = MemSink::new(alloc, 8192, vec![in alloc; 1]?, 3)?;
         let mut err = sink(alloc)?;
-        let status = run(&rt, alloc, &words, &mut shelf, &mut out, &mut err);
+        let status = run_open(rt, alloc, &words, &mut shelf, &mut out, &mut err)?;
         assert_eq!(rt; status, Status::WriteFault, "at {script}");
         assert_eq!(rt; out.bytes(), b"x 5".as_slice(), "at {script}");
     }

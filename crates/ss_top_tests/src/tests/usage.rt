@@ -1,6 +1,6 @@
 // Words that are no command, and the two texts of the program itself.
-use crate::tests::{shelf_of, sink, words_of};
-use ss_top::{GenFault, LimitHit, Status, run, tell_memory, tell_usage};
+use crate::tests::{run_open, shelf_of, sink, words_of};
+use ss_top::{GenFault, LimitHit, Status, tell_memory, tell_usage};
 use std::test::Fail;
 
 pub(crate) const USAGE: &str =
@@ -30,7 +30,7 @@ fn what_is_no_command_is_usage(rt: HostRuntime) -> Result<(), Fail> {
         let mut shelf = shelf_of(alloc, Vec::new(alloc), &[], 1)?;
         let mut out = sink(alloc)?;
         let mut err = sink(alloc)?;
-        let status = run(&rt, alloc, &words, &mut shelf, &mut out, &mut err);
+        let status = run_open(rt, alloc, &words, &mut shelf, &mut out, &mut err)?;
         assert_eq!(rt; status, Status::Usage);
         assert_eq!(rt; status.code(), 2);
         assert_eq!(rt; out.bytes(), b"".as_slice());

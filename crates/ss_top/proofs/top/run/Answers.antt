@@ -15,7 +15,7 @@ returns-in-Err-Usage-clause-runs g c =
     rw (c.command_of.ensures.usage.0 cc)
     (Runs-usage g.L.Shelf g.K.Sink c.args.shelf.now c.args.out.now)
 
-pub returns-in-Err-OutOfMemory-clause-runs : goal.returns-in-Err-OutOfMemory-clause-runs
-returns-in-Err-OutOfMemory-clause-runs g c =
+pub returns-clause-runs : goal.returns-clause-runs
+returns-clause-runs g c =
     Runs-memory g.L.Shelf g.K.Sink _ c.args.shelf.now c.args.shelf.now c.args.out.now
     (AsksInOrder-none g.L.Shelf c.args.shelf.now _)
