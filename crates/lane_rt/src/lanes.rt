@@ -32,14 +32,14 @@ pub struct Lanes<C: Class + 'static, G: Gate + 'static> {
 }
 
 impl<C: Class + 'static, G: Gate + 'static> Model for Lanes<C, G> {
-    ghost use Rattle.delegation.specs.Runtimes.{RuntimeView};
-    ghost use Rattle.lane_rt.specs.Seen.{seen_of};
+    ghost use Rattle.lane_rt.specs.Seen.{LanesValue, seen_of, running_of};
     ghost use Rattle.lane_rt.specs.Kept.{IsKept};
 
-    ghost Value = { RuntimeView C C.Red };
+    ghost Value = { LanesValue C C.Op C.Red };
 
-    ghost view = { λ lanes. seen_of C.meaning lanes.store lanes.marks lanes.delegates
-        lanes.has_failed };
+    ghost view = { λ lanes. record {
+        runtime = seen_of C.meaning lanes.store lanes.marks lanes.delegates lanes.has_failed;
+        running = running_of C.meaning lanes.store lanes.marks lanes.has_failed } };
 
     ghost invariant = { λ lanes. IsKept C.meaning lanes.store lanes.marks lanes.delegates
         lanes.has_failed };
@@ -58,7 +58,7 @@ impl<C: Class + 'static, G: Gate + 'static> Lanes<C, G> {
         requires at_most_64 { n ≤ 64 }
         requires least { 1 ≤ capacity }
         requires most { capacity ≤ RING }
-        ensures { IfOk result (λ lanes. IsNew C.meaning lanes n) }
+        ensures { IfOk result (λ lanes. IsNew C.meaning lanes.runtime n) }
     {
         Ok(Lanes {
             store: new_store(alloc, n, capacity)?,
@@ -73,7 +73,7 @@ impl<C: Class + 'static, G: Gate + 'static> Lanes<C, G> {
 impl<C: Class + 'static, G: Gate + 'static> Runtime<C> for Lanes<C, G> {
     type Task = DelegateJob<C, G>;
 
-    ghost seen = { λ lanes. lanes };
+    ghost seen = { λ lanes. lanes.runtime };
 
     fn has_failed(&self) -> bool {
         self.has_failed

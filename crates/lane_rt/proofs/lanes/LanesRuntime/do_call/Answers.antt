@@ -11,7 +11,7 @@ use Rattle.lane_rt.proofs.lanes.LanesRuntime.do_call.Goals as goal
 pub reclaim-requires-clause-idle : goal.reclaim-requires-clause-idle
 reclaim-requires-clause-idle g c =
     let usable : c.self.inside.has_failed ≡ false =
-    ap (λ seen. seen.has_failed) c.self.view_is ∙ c.requires.usable in
+    ap (λ seen. seen.runtime.has_failed) c.self.view_is ∙ c.requires.usable in
     (c.self.invariant.kept usable).idle
 
 pub invariant_of-self-2 : goal.invariant_of-self-2
@@ -36,7 +36,7 @@ invariant_of-self-2 g c =
 pub returns-clause-answered : goal.returns-clause-answered
 returns-clause-answered g c =
     let usable : c.self.inside.has_failed ≡ false =
-    ap (λ seen. seen.has_failed) c.self.view_is ∙ c.requires.usable in
+    ap (λ seen. seen.runtime.has_failed) c.self.view_is ∙ c.requires.usable in
     let kept = c.self.invariant.kept usable in
     let on = c.in-Ok.ensures.continues in
     let ran = c.in-Ok-operate.ensures in

@@ -29,7 +29,7 @@ invariant_of-self-2 g c =
 pub returns-clause-answered : goal.returns-clause-answered
 returns-clause-answered g c =
     let usable : c.self.inside.has_failed ≡ false =
-    ap (λ seen. seen.has_failed) c.self.view_is ∙ c.requires.usable in
+    ap (λ seen. seen.runtime.has_failed) c.self.view_is ∙ c.requires.usable in
     let kept = c.self.invariant.kept usable in
     let sent = c.in-Ok.ensures in
     let opened = (delegable c.self.inside.marks c.args.o.0 c.own_set.result

@@ -6,7 +6,7 @@ use Rattle.lane_rt.proofs.lanes.LanesRuntime.do_end.Goals as goal
 pub returns-clause-answered : goal.returns-clause-answered
 returns-clause-answered g c =
     let usable : c.self.inside.has_failed ≡ false =
-    ap (λ seen. seen.has_failed) c.self.view_is ∙ c.requires.usable in
+    ap (λ seen. seen.runtime.has_failed) c.self.view_is ∙ c.requires.usable in
     let kept = c.self.invariant.kept usable in
     let on = c.in-Ok.ensures.continues in
     let count = sym on.logs.count ∙ kept.log_count ∙ sym (on.lanes ∙ kept.lane_count) in

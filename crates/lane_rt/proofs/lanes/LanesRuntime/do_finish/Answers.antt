@@ -8,7 +8,7 @@ use Rattle.lane_rt.proofs.lanes.LanesRuntime.do_finish.Goals as goal
 pub bring_all_home-requires-clause-logged : goal.bring_all_home-requires-clause-logged
 bring_all_home-requires-clause-logged g c =
     let usable : c.self.inside.has_failed ≡ false =
-    ap (λ seen. seen.has_failed) c.self.view_is ∙ c.requires.usable in
+    ap (λ seen. seen.runtime.has_failed) c.self.view_is ∙ c.requires.usable in
     let kept = c.self.invariant.kept usable in
     kept.log_count ∙ sym kept.lane_count
 
@@ -45,7 +45,7 @@ returns-clause-total g c =
 pub returns-clause-logs : goal.returns-clause-logs
 returns-clause-logs g c =
     let usable : c.self.inside.has_failed ≡ false =
-    ap (λ seen. seen.has_failed) c.self.view_is ∙ c.requires.usable in
+    ap (λ seen. seen.runtime.has_failed) c.self.view_is ∙ c.requires.usable in
     let kept = c.self.invariant.kept usable in
     let m = g.C.Class.meaning in
     let home = c.in-Ok.ensures in

@@ -27,7 +27,7 @@ invariant_of-self g c =
 pub returns-in-Ok-clause-answered : goal.returns-in-Ok-clause-answered
 returns-in-Ok-clause-answered g c =
     let usable : c.self.inside.has_failed ≡ false =
-    ap (λ seen. seen.has_failed) c.self.view_is ∙ c.requires.usable in
+    ap (λ seen. seen.runtime.has_failed) c.self.view_is ∙ c.requires.usable in
     let kept = c.self.invariant.kept usable in
     let store = c.self.inside.store in
     let m = g.C.Class.meaning in

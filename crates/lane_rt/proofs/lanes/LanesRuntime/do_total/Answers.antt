@@ -25,7 +25,7 @@ invariant_of-self-2 g c =
 pub returns : goal.returns
 returns g c =
     let usable : c.self.inside.has_failed ≡ false =
-    ap (λ seen. seen.has_failed) c.self.view_is ∙ c.requires.usable in
+    ap (λ seen. seen.runtime.has_failed) c.self.view_is ∙ c.requires.usable in
     let kept = c.self.invariant.kept usable in
     let store = c.self.inside.store in
     let m = g.C.Class.meaning in
