@@ -24,7 +24,7 @@ use Rattle.lane_ends.specs.LaneEnds.{sent_since, each_finds, IsTakenFrom, taker_
 use Rattle.lane_ends.proofs.EndLemmas.{since_is}
 use Rattle.lane_objects.specs.declared.object.Object.{Object}
 use Rattle.lane_store.specs.declared.store.LaneStore.{LaneStore}
-use Rattle.lane_objects.specs.Objects.{lane_and_number, come_back, without_values}
+use Rattle.lane_objects.specs.Objects.{lane_and_number, found_in, found_at, come_back, without_values}
 use Rattle.lane_objects.specs.Outcomes.{value_after, sent_runs, total_after, state_from, AreApart}
 use Rattle.lane_store.specs.LaneStores.{Each, stores_of, store_state, IsWholeStore, AreIdle, IsIdleAt, Continues, ComesHome, Sends}
 use Rattle.lane_objects.proofs.ListLemmas.{get-set, get-set_other}
@@ -137,6 +137,7 @@ module _ {C W O R : Type 0} (m : Meaning C O R) (home_of : W → Home C O R) whe
     objects = second.objects ∙ first.objects;
     lanes = second.lanes ∙ first.lanes;
     logs = fronts_trans a.logs.items b.logs.items c.logs.items first.logs second.logs;
+    found = λ n k number is. first.found n k number (second.found n k number is);
   }
 
   -- a lane comes home
@@ -189,6 +190,8 @@ module _ {C W O R : Type 0} (m : Meaning C O R) (home_of : W → Home C O R) whe
           lanes = ap length ends_are ∙ length-set store.ends.items l new;
           logs = subst (λ logs. AreFronts store.logs.items logs) (sym logs_are)
               (fronts_more store.logs.items l log was.runs logged);
+          found = none_sent objects now.objects.items stores l was is whole.apart at no_values home
+              count;
         };
         idle = λ end at. subst (IsIdle m home_of) (same_Some _ _
             (sym (ap (λ ends. slice_get ends l) ends_are ∙ get-set store.ends.items l old new here)
@@ -249,6 +252,11 @@ module _ {C W O R : Type 0} (m : Meaning C O R) (home_of : W → Home C O R) whe
         lanes = ap length ends_are ∙ length-set store.ends.items l new;
         logs = subst (λ logs. AreFronts store.logs.items logs) (sym logs_are)
             (fronts_same store.logs.items);
+        there = ap (λ os. found_at os run.object.0) objects_are
+            ∙ ap found_in (get-set objects run.object.0 object goes at) ∙ away;
+        others = λ n k number differs is.
+            sym (ap (λ os. found_at os n) objects_are
+            ∙ ap found_in (get-set_other objects run.object.0 n goes differs)) ∙ is;
       }
 
   -- an operation went to a lane of a store that had gone on
@@ -263,4 +271,6 @@ module _ {C W O R : Type 0} (m : Meaning C O R) (home_of : W → Home C O R) whe
     objects = sends.objects ∙ on.objects;
     lanes = sends.lanes ∙ on.lanes;
     logs = fronts_trans a.logs.items b.logs.items c.logs.items on.logs sends.logs;
+    there = sends.there;
+    others = λ n k number differs is. on.found n k number (sends.others n k number differs is);
   }

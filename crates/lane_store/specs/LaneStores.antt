@@ -1,5 +1,5 @@
 -- What does a lane store come to, and what is kept of it between calls?
-use Rattle.std.specs.Prelude.{◌≡◌, ℕ, ◌+◌, ◌<◌, true, Option, Some, None, Result, Err, List, [], length, map, slice_get, replicate}
+use Rattle.std.specs.Prelude.{◌≡◌, ℕ, ◌+◌, ◌<◌, Bool, true, false, Option, Some, None, Result, Err, List, [], length, map, slice_get, replicate}
 use Rattle.ss_base.specs.declared.ids.Run.{Run}
 use Rattle.ss_base.specs.declared.ids.ObjectId.{ObjectId}
 use Rattle.ss_base.specs.declared.ids.SetId.{SetId}
@@ -14,10 +14,10 @@ use Rattle.delegation.specs.Answers.{with_run}
 use Rattle.delegates.specs.declared.home.Home.{Home}
 use Rattle.delegates.specs.Stores.{Stored}
 use Rattle.lane_ends.specs.declared.lane_end.LaneEnd.{LaneEnd}
-use Rattle.lane_ends.specs.LaneEnds.{comes_to, IsWhole, IsIdle}
+use Rattle.lane_ends.specs.LaneEnds.{has_worker, comes_to, IsWhole, IsIdle}
 use Rattle.lane_objects.specs.declared.object.Object.{Object}
 use Rattle.lane_store.specs.declared.store.LaneStore.{LaneStore}
-use Rattle.lane_objects.specs.Objects.{NoneSent}
+use Rattle.lane_objects.specs.Objects.{found_at, NoneSent}
 use Rattle.lane_objects.specs.Outcomes.{sent_runs, state_from, AreApart}
 
 -- all lanes are so
@@ -28,6 +28,16 @@ Each P ends = (n : ℕ) (end : _) → slice_get ends n ≡ Some end → P end
 abbrev pub HasAll : ℕ → Option ObjectId → Type 0
 HasAll count None = Unit {0}
 HasAll count (Some object) = object.0 < count
+
+module _ {C W O R : Type 0} where
+  -- a delegate in a thread of its own takes from the lane, where there is one
+  abbrev pub has_worker_in : Option (LaneEnd C W O R) → Bool
+  has_worker_in None = false
+  has_worker_in (Some end) = has_worker end
+
+  -- and from the lane of this number
+  abbrev pub has_worker_at : List (LaneEnd C W O R) → ℕ → Bool
+  has_worker_at ends lane = has_worker_in (slice_get ends lane)
 
 module _ {C W O R : Type 0} (m : Meaning C O R) (home_of : W → Home C O R) where
   -- the stores to which lanes come
@@ -69,6 +79,7 @@ module _ {C W O R : Type 0} (m : Meaning C O R) (home_of : W → Home C O R) whe
     pub objects : length new.objects.items ≡ length old.objects.items
     pub lanes : length new.ends.items ≡ length old.ends.items
     pub logs : AreFronts old.logs.items new.logs.items
+    pub found : NoneSent old.objects.items new.objects.items
 
   -- and a lane came home
   pub record ComesHome (old new : LaneStore C W O R) (lane : ℕ) : Type 0 where
@@ -85,6 +96,7 @@ module _ {C W O R : Type 0} (m : Meaning C O R) (home_of : W → Home C O R) whe
     pub objects : length new.objects.items ≡ length old.objects.items + 1
     pub lanes : new.ends.items ≡ old.ends.items
     pub logs : new.logs.items ≡ old.logs.items
+    pub found : NoneSent old.objects.items new.objects.items
 
   -- an operation went to the end of a lane
   pub record Sends (old new : LaneStore C W O R) (lane : ℕ) (run : Run) (op : O)
@@ -95,6 +107,12 @@ module _ {C W O R : Type 0} (m : Meaning C O R) (home_of : W → Home C O R) whe
     pub objects : length new.objects.items ≡ length old.objects.items
     pub lanes : length new.ends.items ≡ length old.ends.items
     pub logs : AreFronts old.logs.items new.logs.items
+    -- its object is in this lane, and no other object went to one
+    pub there : found_at new.objects.items run.object.0 ≡ Some (lane, run.object.0)
+    pub others :
+        (n k number : ℕ) → (n ≡ run.object.0 → ⊥) →
+        found_at new.objects.items n ≡ Some (k, number) →
+        found_at old.objects.items n ≡ Some (k, number)
 
   -- the lane of a set has done all that was sent to it
   abbrev pub IsCaughtUp : LaneStore C W O R → ℕ → Option SetId → Type 0

@@ -1,5 +1,5 @@
 // What the runtime's calls do to a store.
-ghost use Rattle.std.specs.Prelude.{◌≡◌, ◌≤◌, ◌<◌, map, false, None, Some, Option, OnOk, IfOk, length, slice_get};
+ghost use Rattle.std.specs.Prelude.{◌≡◌, ◌≤◌, ◌<◌, ◌&&◌, map, false, None, Some, Option, OnOk, IfOk, length, slice_get, is_some};
 ghost use Rattle.ss_base.specs.declared.limits.TheConstants.{RING};
 ghost use Rattle.partition_check.specs.Answers.{AnswersMake, making};
 ghost use Rattle.partition_check.specs.Judged.{judged};
@@ -7,13 +7,13 @@ ghost use Rattle.partition_check.specs.MarkedAfter.{marked_after};
 ghost use Rattle.partition_check.specs.Marked.{set_delegated};
 ghost use Rattle.execution_definitions.specs.Sequential.{operated};
 ghost use Rattle.lane_objects.specs.Objects.{value_at_home, found_at, NoneSent};
-ghost use Rattle.lane_store.specs.LaneStores.{store_state, IsWholeStore, AreIdle, Continues, IsAdded, IsUnchanged, IsCaughtUp, IsNewStore};
+ghost use Rattle.lane_store.specs.LaneStores.{store_state, IsWholeStore, AreIdle, Continues, IsAdded, IsUnchanged, IsCaughtUp, IsNewStore, has_worker_at};
 
 use crate::home::bring_home;
 use crate::store::LaneStore;
 use class_laws::{LocalClass, LocalReducible, no_reading};
 use execution_definitions::By;
-use lane_ends::{LaneWorker, new_end};
+use lane_ends::{LaneWorker, Taker, new_end};
 use lane_objects::{Object, own_value, send_object, value_here, whereabouts};
 use partition_check::{MarkFault, Marks};
 use serializer::lane_of;
@@ -153,6 +153,39 @@ pub fn value_of<C: LocalClass, W: LaneWorker<C>>(store: &LaneStore<C, W>, o: Obj
     value_here(&store.objects[o.0 as usize])
 }
 
+// Whether there is an object of this number whose value isn't at home.
+fn is_out<C: LocalClass, W: LaneWorker<C>>(store: &LaneStore<C, W>, o: ObjectId) -> bool
+    ensures { result ≡ is_some (found_at store.now.objects.items o.0) }
+{
+    match store.objects.get(o.0 as usize) {
+        Some(object) => whereabouts(object).is_some(),
+        None => false,
+    }
+}
+
+// Whether a delegate in a thread of its own takes from the lane of this number.
+fn has_delegate<C: LocalClass, W: LaneWorker<C>>(store: &LaneStore<C, W>, lane: usize) -> bool
+    ensures { result ≡ has_worker_at store.now.ends.items lane }
+{
+    match store.ends.get(lane) {
+        Some(end) => matches!(end.taker, Some(Taker::Delegate { .. })),
+        None => false,
+    }
+}
+
+/// Whether there is an object of this number whose value isn't at home, and a delegate in a thread
+/// of its own takes from the lane of this number.
+pub fn is_away<C: LocalClass, W: LaneWorker<C>>(
+    store: &LaneStore<C, W>,
+    o: ObjectId,
+    lane: usize,
+) -> bool
+    ensures { result ≡ (is_some (found_at store.now.objects.items o.0)
+        && has_worker_at store.now.ends.items lane) }
+{
+    is_out(store, o) && has_delegate(store, lane)
+}
+
 /// The values of objects that are all at home.
 pub fn into_values<C: LocalClass>(
     alloc: Global,
@@ -185,6 +218,7 @@ pub fn operate<C: LocalClass, W: LaneWorker<C>>(
     ensures objects { length store.new.objects.items ≡ length store.old.objects.items }
     ensures lanes { store.new.ends.items ≡ store.old.ends.items }
     ensures logs { store.new.logs.items ≡ store.old.logs.items }
+    ensures found { OnOk result (NoneSent store.old.objects.items store.new.objects.items) }
 {
     let at = o.0 as usize;
     let mut value = send_object(store.alloc, &mut store.objects[at], 0, o)?;

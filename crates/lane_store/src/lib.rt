@@ -14,7 +14,7 @@ mod home;
 mod sends;
 mod store;
 
-pub use calls::{add, into_values, new_store, operate, reclaim, value_of};
+pub use calls::{add, into_values, is_away, new_store, operate, reclaim, value_of};
 pub use home::{bring_all_home, end_all};
 pub use sends::delegate;
 pub use store::LaneStore;

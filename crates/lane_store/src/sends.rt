@@ -1,11 +1,11 @@
 // An operation is sent to a lane, and its object with it where it is at home.
-ghost use Rattle.std.specs.Prelude.{◌≡◌, ℕ, ◌<◌, true, None, Some, OnOk, IfOk, length, slice_get};
+ghost use Rattle.std.specs.Prelude.{◌≡◌, ℕ, ◌<◌, true, None, Some, OnOk, IfOk, IsOk, length, slice_get};
 ghost use Rattle.std.specs.Option.{option_map};
 ghost use Rattle.std.specs.Arc.{arc_value};
 ghost use Rattle.execution_definitions.specs.Sequential.{value_read};
 ghost use Rattle.lane_ends.specs.Workers.{HasHired};
 ghost use Rattle.lane_objects.specs.Objects.{found_at, lane_and_number};
-ghost use Rattle.lane_store.specs.LaneStores.{store_state, IsWholeStore, Continues, Sends, HasAll};
+ghost use Rattle.lane_store.specs.LaneStores.{store_state, IsWholeStore, Continues, Sends, HasAll, has_worker_at};
 
 use crate::calls::bring_object_home;
 use crate::store::LaneStore;
@@ -49,6 +49,7 @@ fn share<C: LocalClass, W: LaneWorker<C>, R: Threads + Wait>(
         (Continues C.local_meaning W.home_of store.old store.new) }
     ensures value { IfOk result (λ shared. option_map arc_value shared
         ≡ value_read (store_state C.local_meaning W.home_of store.old).values reading) }
+    ensures none { reading ≡ None → IsOk result × (store.new ≡ store.old) }
 {
     let Some(read) = reading else {
         return Ok(None);
@@ -120,8 +121,9 @@ fn follow<C: LocalClass, W: LaneWorker<C>, H: Starter<Home<C>, Taker<C, W>>, R: 
     requires logged { length store.old.logs.items ≡ length store.old.ends.items }
     requires there { found_at store.old.objects.items run.object.0
         ≡ Some (lane, run.object.0) }
-    ensures { OnOk result (Sends C.local_meaning W.home_of store.old store.new lane run op
+    ensures sends { OnOk result (Sends C.local_meaning W.home_of store.old store.new lane run op
         (option_map arc_value reading)) }
+    ensures succeeds { has_worker_at store.old.ends.items lane ≡ true → IsOk result }
 {
     let Run {
         call,
@@ -142,7 +144,10 @@ fn follow<C: LocalClass, W: LaneWorker<C>, H: Starter<Home<C>, Taker<C, W>>, R: 
 
 // The object is away in this lane.
 fn is_there<C>(object: &Object<C>, lane: usize) -> bool
-    ensures { result ≡ true → (number : ℕ) × (lane_and_number object.now ≡ Some (lane, number)) }
+    ensures there { result ≡ true →
+        (number : ℕ) × (lane_and_number object.now ≡ Some (lane, number)) }
+    ensures seen { (number : ℕ) → lane_and_number object.now ≡ Some (lane, number) →
+        result ≡ true }
 {
     match whereabouts(object) {
         Some((there, _)) => there == lane,
@@ -151,7 +156,8 @@ fn is_there<C>(object: &Object<C>, lane: usize) -> bool
 }
 
 /// Sends an operation to a lane. Its object goes with it, unless it is there already, and what the
-/// operation reads is the value that this other object comes to now.
+/// operation reads is the value that this other object comes to now. Where nothing is read, the
+/// object is there already and a delegate takes from the lane, this succeeds.
 pub fn delegate<
     C: LocalClass,
     W: LaneWorker<C>,
@@ -174,8 +180,11 @@ pub fn delegate<
     requires logged { length store.old.logs.items ≡ length store.old.ends.items }
     requires known { run.object.0 < length store.old.objects.items }
     requires read_known { HasAll (length store.old.objects.items) reading }
-    ensures { OnOk result (Sends C.local_meaning W.home_of store.old store.new lane run op
+    ensures sends { OnOk result (Sends C.local_meaning W.home_of store.old store.new lane run op
         (value_read (store_state C.local_meaning W.home_of store.old).values reading)) }
+    ensures succeeds { reading ≡ None →
+        found_at store.old.objects.items run.object.0 ≡ Some (lane, run.object.0) →
+        has_worker_at store.old.ends.items lane ≡ true → IsOk result }
 {
     let reading = share(rt, store, reading)?;
     if is_there(&store.objects[run.object.0 as usize], lane) {

@@ -1,4 +1,4 @@
-use Rattle.std.proofs.Common.{refl, ap, ◌∙◌, map, length}
+use Rattle.std.proofs.Common.{refl, sym, ap, ◌∙◌, map, length}
 use Rattle.std.proofs.lemmas.List.{map_push, length_push}
 use Rattle.delegation.specs.PlainParts.{state_of}
 use Rattle.lane_objects.specs.declared.object.Object.TheVariants.{Here}
@@ -28,4 +28,7 @@ returns-clause-added g c =
       objects = ap length pushed ∙ length_push store.objects.items (Here c.args.value);
       lanes = refl;
       logs = refl;
+      found = λ n k number is.
+          sym (ap (λ items. found_at items n) pushed
+          ∙ found_push store.objects.items (Here c.args.value) refl n) ∙ is;
     }

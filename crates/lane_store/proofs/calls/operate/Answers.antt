@@ -3,7 +3,7 @@ use Rattle.std.specs.Option.{option_copied}
 use Rattle.std.proofs.lemmas.List.{length-set, set-set}
 use Rattle.std.proofs.lemmas.Option.{slice_get_read}
 use Rattle.lane_objects.specs.declared.object.Object.TheVariants.{Here}
-use Rattle.lane_objects.specs.Objects.{found_in}
+use Rattle.lane_objects.specs.Objects.{found_in, found_at}
 use Rattle.lane_objects.specs.Outcomes.{state_from}
 use Rattle.lane_store.specs.LaneStores.{stores_of}
 use Rattle.lane_objects.proofs.OutcomeLemmas.{laws_from, apart_by_found, found_set}
@@ -44,4 +44,8 @@ returns g c =
       objects = ap length set ∙ length-set objects c.args.o.0 now;
       lanes = refl;
       logs = refl;
+      found = λ n k number is.
+          sym (ap (λ objects. found_at objects n) set
+          ∙ found_set objects c.args.o.0 old now at
+          (sym (sym (ap found_in at) ∙ c.requires.home)) n) ∙ is;
     }

@@ -16,7 +16,7 @@ follow-requires g c =
     let lanes = on.lanes in
     let at = slice_get_read store.objects.items (length store.objects.items) o c.index.result.now
     refl (omega (arith, known, objects)) c.index.ensures in
-    let there = c.is_there.ensures c.if-is_there.true in
+    let there = c.is_there.ensures.there c.if-is_there.true in
     let found = ap found_in at ∙ there.1 in
     record {
       can = c.requires.can;
@@ -57,18 +57,18 @@ carry-requires g c =
       home = home.home;
     }
 
-pub returns-then-is_there : goal.returns-then-is_there
-returns-then-is_there g c =
+pub returns-then-is_there-clause-sends : goal.returns-then-is_there-clause-sends
+returns-then-is_there-clause-sends g c =
     let m = g.C.LocalClass.local_meaning in
     let home_of = g.W.LaneWorker.home_of in
     let read = c.in_ok-reading.ensures in
     on_ok_weaker c.follow.result
     (λ sends. sends_after m home_of c.args.store.now c.share.new.store c.follow.new.store
     c.args.lane c.args.run c.args.op _ _ read.continues read.value sends)
-    c.follow.ensures
+    c.follow.ensures.sends
 
-pub returns : goal.returns
-returns g c =
+pub returns-clause-sends : goal.returns-clause-sends
+returns-clause-sends g c =
     let m = g.C.LocalClass.local_meaning in
     let home_of = g.W.LaneWorker.home_of in
     let read = c.in_ok-reading.ensures in

@@ -7,7 +7,7 @@ use Rattle.set_queue.specs.declared.message.Message.TheVariants as message
 use Rattle.delegates.specs.Stores.{entry_of}
 use Rattle.lane_ends.specs.LaneEnds.{comes_to}
 use Rattle.lane_objects.specs.Outcomes.{value_after}
-use Rattle.lane_store.specs.LaneStores.{stores_of}
+use Rattle.lane_store.specs.LaneStores.{has_worker_in, stores_of}
 use Rattle.lane_objects.proofs.ListLemmas.{set_same}
 use Rattle.lane_objects.proofs.OutcomeLemmas.{laws_from, found_object, is_in_lane, value_there}
 use Rattle.lane_objects.proofs.RunLemmas.{has_followed}
@@ -33,8 +33,15 @@ post-requires g c =
           c.requires.there;
     }
 
-pub returns : goal.returns
-returns g c =
+pub returns-clause-succeeds : goal.returns-clause-succeeds
+returns-clause-succeeds g c =
+    let ends = c.args.store.now.ends.items in
+    let here = slice_get_read ends (length ends) c.args.lane c.index_mut.result.now refl
+    c.requires.lane c.index_mut.ensures.value in
+    λ works. c.post.ensures.succeeds (sym (ap has_worker_in here) ∙ works)
+
+pub returns-clause-sends : goal.returns-clause-sends
+returns-clause-sends g c =
     let m = g.C.LocalClass.local_meaning in
     let home_of = g.W.LaneWorker.home_of in
     let store = c.args.store.now in

@@ -39,6 +39,8 @@ returns g c =
             objects = length-set objects c.args.o.0 new;
             lanes = refl;
             logs = fronts_same store.logs.items;
+            found = λ n k number is. sym (found_set objects c.args.o.0 old new at (there ∙ sym home) n)
+                ∙ is;
           });
       value = IfOk-weaker c.share_object.result _ _
           (λ shared is. value_here objects stores c.args.o.0 old at

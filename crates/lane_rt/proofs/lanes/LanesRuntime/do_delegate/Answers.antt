@@ -9,7 +9,7 @@ use Rattle.lane_rt.proofs.lanes.LanesRuntime.do_delegate.Goals as goal
 
 pub invariant_of-self-2 : goal.invariant_of-self-2
 invariant_of-self-2 g c =
-    let sent = c.in-Ok.ensures in
+    let sent = c.in-Ok.ensures.sends in
     let opened = (delegable c.self.inside.marks c.args.o.0 c.own_set.result
     (number_given c.args.reading) c.in_ok-set.ensures.judged).isolating in
     record {
@@ -31,7 +31,7 @@ returns-clause-answered g c =
     let usable : c.self.inside.has_failed ≡ false =
     ap (λ seen. seen.runtime.has_failed) c.self.view_is ∙ c.requires.usable in
     let kept = c.self.invariant.kept usable in
-    let sent = c.in-Ok.ensures in
+    let sent = c.in-Ok.ensures.sends in
     let opened = (delegable c.self.inside.marks c.args.o.0 c.own_set.result
     (number_given c.args.reading) c.in_ok-set.ensures.judged).isolating in
     let count = sym sent.logs.count ∙ kept.log_count ∙ sym (sent.lanes ∙ kept.lane_count) in
