@@ -1,2 +1,6 @@
 mod CallLemmas
+mod PlacedLemmas
 mod KeptLemmas
+mod RunningLemmas
+mod TakenLemmas
+mod ViewLemmas

@@ -1,3 +1,4 @@
 pub mod Hires
 pub mod Kept
 pub mod Seen
+pub mod Moves

@@ -33,17 +33,24 @@ module _ {C G O R : Type 0} (m : Meaning C O R)
       has_failed = has_failed;
     }
 
-    -- each lane: who takes its messages, the store with which that began, and the messages since
-    abbrev pub lanes_of :
-        List (List Run) → List (LaneEnd C (RunningJob (DelegateJob C G O R)) O R)
-        → List (LaneView C O R)
-    lanes_of (log ∷ logs) (end ∷ ends) = record {
+    -- a lane: who takes its messages, the store with which that began, and the messages since
+    abbrev pub lane_of_end :
+        List Run → LaneEnd C (RunningJob (DelegateJob C G O R)) O R → LaneView C O R
+    lane_of_end log end = record {
       has_worker = has_worker end;
       base = base_of m home_given end;
       since = since_of home_given end;
       log = log;
-    } ∷ lanes_of logs ends
-    lanes_of _ _ = []
+    }
+
+    -- all lanes
+    abbrev pub lanes_of :
+        List (List Run) → List (LaneEnd C (RunningJob (DelegateJob C G O R)) O R)
+        → List (LaneView C O R)
+    lanes_of [] [] = []
+    lanes_of (log ∷ logs) [] = []
+    lanes_of [] (end ∷ ends) = lane_of_end [] end ∷ lanes_of [] ends
+    lanes_of (log ∷ logs) (end ∷ ends) = lane_of_end log end ∷ lanes_of logs ends
 
     -- what is at home, and all lanes
     abbrev pub running_of :

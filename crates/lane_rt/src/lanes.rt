@@ -1,7 +1,8 @@
 // The runtime with delegates in threads.
-ghost use Rattle.std.specs.Prelude.{◌≤◌, IfOk};
+ghost use Rattle.std.specs.Prelude.{◌≡◌, ◌≤◌, false, IfOk};
 ghost use Rattle.ss_base.specs.declared.limits.TheConstants.{RING};
 ghost use Rattle.delegation.specs.Runtimes.{IsNew};
+ghost use Rattle.lane_rt.specs.Moves.{is_away};
 
 use crate::hire::HireBy;
 use class_laws::Class;
@@ -10,8 +11,8 @@ use delegation::{Delegation, Fault, Finished, Runtime};
 use execution_definitions::By;
 use jobs::{Errand, Launched, RunningJob, Starter};
 use lane_store::{
-    LaneStore, add, bring_all_home, delegate, end_all, into_values, new_store, operate, reclaim,
-    value_of,
+    LaneStore, add, bring_all_home, delegate, end_all, into_values, is_away, new_store, operate,
+    reclaim, value_of,
 };
 use partition_check::{MarkFault, Marks};
 use serializer::lane_of;
@@ -46,6 +47,8 @@ impl<C: Class + 'static, G: Gate + 'static> Model for Lanes<C, G> {
 }
 
 impl<C: Class + 'static, G: Gate + 'static> Lanes<C, G> {
+    ghost use Rattle.lane_core.specs.Kept.{IsKept};
+
     /// A runtime before its first call, with `n` delegates, each behind a queue with room for
     /// `capacity` messages. They pass `gate` before each run.
     pub fn new(
@@ -68,12 +71,37 @@ impl<C: Class + 'static, G: Gate + 'static> Lanes<C, G> {
             has_failed: false,
         })
     }
+
+    // What the laws on cuts ask of running lanes holds between calls, as long as memory was found.
+    pub fn hold_together(&self)
+        ensures { self.now.running.has_failed ≡ false → IsKept self.now.running }
+    {
+        let _has_failed = self.has_failed;
+    }
+
+    /// Whether the object's value isn't at home, and a delegate in a thread of its own takes from
+    /// its lane, that of its last delegation in this epoch.
+    pub fn away(&self, o: ObjectId) -> bool
+        ensures { result ≡ is_away self.now o.0 }
+    {
+        match self.marks.delegated_to(o) {
+            None => false,
+            Some(set) => {
+                let lane = usize::from(lane_of(set, self.delegates).0);
+                is_away(&self.store, o, lane)
+            }
+        }
+    }
 }
 
 impl<C: Class + 'static, G: Gate + 'static> Runtime<C> for Lanes<C, G> {
     type Task = DelegateJob<C, G>;
 
+    ghost use Rattle.lane_rt.specs.Moves.{lanes_moves};
+
     ghost seen = { λ lanes. lanes.runtime };
+
+    ghost moves = { lanes_moves };
 
     fn has_failed(&self) -> bool {
         self.has_failed

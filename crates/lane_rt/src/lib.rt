@@ -8,5 +8,6 @@
 
 mod hire;
 mod lanes;
+pub mod laws;
 
 pub use lanes::Lanes;

@@ -2,7 +2,9 @@ use Rattle.std.proofs.Common.{refl, sym, ap, ◌∙◌, length, []}
 use Rattle.std.proofs.lemmas.List.{length-replicate}
 use Rattle.delegation.proofs.runs.SentLemmas.{none_sent_to_lanes}
 use Rattle.lane_store.proofs.IdleLemmas.{idle_apart}
+use Rattle.lane_objects.specs.Objects.{found_at}
 use Rattle.lane_rt.proofs.CallLemmas.{store_done}
+use Rattle.lane_rt.proofs.PlacedLemmas.{placed_home}
 use Rattle.lane_ends.specs.Workers.{home_given}
 use Rattle.lane_rt.proofs.lanes.Lanes.new.Goals as goal
 
@@ -23,6 +25,7 @@ invariant_of-result g c =
         lane_count = new.lanes;
         log_count = ap length new.logs ∙ length-replicate c.args.n [];
         idle = λ closed. new.idle;
+        placed = placed_home store.objects.items _ _ (λ n. ap (λ os. found_at os n) new.objects);
       };
     }
 

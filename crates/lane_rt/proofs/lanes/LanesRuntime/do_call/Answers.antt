@@ -1,4 +1,5 @@
 use Rattle.std.proofs.Common.{◌≡◌, ◌∙◌, Some, None, false, refl, sym, ap, subst, length}
+use Rattle.std.specs.Prelude.{is_some}
 use Rattle.execution_definitions.specs.Sequential.{operated}
 use Rattle.delegation.proofs.plains.PlainLemmas.{length-noted}
 use Rattle.lane_ends.specs.LaneEnds.{IsIdle}
@@ -6,6 +7,9 @@ use Rattle.lane_ends.specs.Workers.{home_given}
 use Rattle.lane_store.specs.LaneStores.{Each}
 use Rattle.lane_rt.specs.Seen.{seen_of}
 use Rattle.lane_rt.proofs.CallLemmas.{store_done, caught_up}
+use Rattle.lane_store.proofs.IdleLemmas.{still_home}
+use Rattle.lane_rt.proofs.PlacedLemmas.{placed_freed}
+use Rattle.lane_rt.proofs.RunningLemmas.{out_is}
 use Rattle.lane_rt.proofs.lanes.LanesRuntime.do_call.Goals as goal
 
 pub reclaim-requires-clause-idle : goal.reclaim-requires-clause-idle
@@ -30,8 +34,22 @@ invariant_of-self-2 g c =
         idle = λ closed. subst (Each (IsIdle g.C.Class.meaning home_given)) (sym ran.lanes)
             (c.in-Ok.ensures.idle
             (sym (ap (λ marks. marks.is_open) c.note_call.ensures.after) ∙ closed));
+        placed = placed_freed c.self.inside.store.objects.items c.operate.new.store.objects.items
+            c.self.inside.marks c.note_call.new.self c.self.inside.delegates c.args.o.0
+            (λ n k number is. on.found n k number (ran.found n k number is))
+            c.note_call.ensures.after
+            (still_home c.reclaim.new.store.objects.items c.operate.new.store.objects.items
+            c.args.o.0 _ ran.found c.in-Ok.ensures.home refl)
+            kept.placed;
       };
     }
+
+pub returns-clause-moves : goal.returns-clause-moves
+returns-clause-moves g c =
+    let new = c.operate.new.store.objects.items in
+    λ done. out_is new c.args.o.0
+    ∙ ap (λ found. is_some found) (still_home c.reclaim.new.store.objects.items new c.args.o.0 _
+    c.in-Ok-operate.ensures.found c.in-Ok.ensures.home refl)
 
 pub returns-clause-answered : goal.returns-clause-answered
 returns-clause-answered g c =

@@ -1,7 +1,39 @@
-use Rattle.std.proofs.Common.{◌≡◌, ◌∙◌, false, refl, sym, ap}
+use Rattle.std.proofs.Common.{◌≡◌, ◌∙◌, false, length, refl, sym, ap}
+use Rattle.std.proofs.lemmas.List.{length-map}
+use Rattle.std.specs.Prelude.{is_some}
 use Rattle.lane_ends.specs.Workers.{home_given}
+use Rattle.partition_check.specs.MarkedAfter.{cleared_mark}
+use Rattle.lane_store.proofs.IdleLemmas.{idle_home}
 use Rattle.lane_rt.proofs.CallLemmas.{store_done}
+use Rattle.lane_rt.proofs.PlacedLemmas.{placed_home}
+use Rattle.lane_rt.proofs.RunningLemmas.{out_is}
 use Rattle.lane_rt.proofs.lanes.LanesRuntime.do_end.Goals as goal
+
+pub invariant_of-self-in-Ok : goal.invariant_of-self-in-Ok
+invariant_of-self-in-Ok g c =
+    let on = c.in-Ok.ensures.continues in
+    let new = c.bring_all_home.new.store in
+    record {
+      some_delegate = c.self.invariant.some_delegate;
+      at_most_64 = c.self.invariant.at_most_64;
+      kept = λ usable. let kept = c.self.invariant.kept usable in record {
+        whole = on.whole;
+        marked = on.objects ∙ kept.marked ∙ sym (ap (λ marks. length marks.objects)
+            c.in_ok-end.ensures.after ∙ length-map c.self.inside.marks.objects cleared_mark);
+        lane_count = on.lanes ∙ kept.lane_count;
+        log_count = sym on.logs.count ∙ kept.log_count;
+        idle = λ closed. c.in-Ok.ensures.idle;
+        placed = placed_home new.objects.items _ _ (idle_home g.C.Class.meaning home_given
+            new.objects.items new.ends.items on.whole.apart c.in-Ok.ensures.idle);
+      };
+    }
+
+pub returns-clause-moves : goal.returns-clause-moves
+returns-clause-moves g c =
+    let new = c.bring_all_home.new.store in
+    λ done object. out_is new.objects.items object
+    ∙ ap (λ found. is_some found) (idle_home g.C.Class.meaning home_given new.objects.items
+    new.ends.items c.in-Ok.ensures.continues.whole.apart c.in-Ok.ensures.idle object)
 
 pub returns-clause-answered : goal.returns-clause-answered
 returns-clause-answered g c =

@@ -1,5 +1,5 @@
 use Rattle.std.proofs.Common.{◌≡◌, ◌∙◌, Some, false, refl, sym, ap}
-use Rattle.std.specs.Prelude.{slice_get}
+use Rattle.std.specs.Prelude.{is_some, slice_get}
 use Rattle.std.specs.Option.{option_map}
 use Rattle.execution_definitions.specs.declared.call.Reply.TheVariants as reply
 use Rattle.delegation.proofs.plains.PlainLemmas.{length-noted}
@@ -7,6 +7,7 @@ use Rattle.lane_ends.specs.Workers.{home_given}
 use Rattle.lane_rt.specs.Seen.{seen_of}
 use Rattle.lane_rt.proofs.CallLemmas.{store_done, caught_up}
 use Rattle.lane_rt.proofs.KeptLemmas.{kept_on}
+use Rattle.lane_rt.proofs.RunningLemmas.{out_is}
 use Rattle.lane_rt.proofs.lanes.LanesRuntime.do_get.Goals as goal
 
 pub reclaim-requires-clause-idle : goal.reclaim-requires-clause-idle
@@ -25,6 +26,7 @@ invariant_of-self-2 g c =
           c.self.inside.marks c.note_call.new.self c.self.inside.delegates
           (c.self.invariant.kept usable) c.in-Ok.ensures.continues
           (length-noted _ _ (Some c.args.o.0) noted)
+          c.args.o.0 noted c.in-Ok.ensures.home
           (λ closed. c.in-Ok.ensures.idle (sym (ap (λ marks. marks.is_open) noted) ∙ closed));
     }
 
@@ -62,7 +64,8 @@ returns g c =
             },
             sym (ap (λ found. option_map reply.Value found) value),
           ),
-          tt,
+          (λ done. out_is new.objects.items c.args.o.0
+          ∙ ap (λ found. is_some found) c.in-Ok.ensures.home),
         ),
       ),
       record { after = tt; value = value },

@@ -1,4 +1,4 @@
-use Rattle.std.proofs.Common.{◌≡◌, ◌∙◌, Some, false, refl, sym, ap, length, length-append}
+use Rattle.std.proofs.Common.{◌≡◌, ◌∙◌, Some, false, refl, sym, ap}
 use Rattle.std.proofs.lemmas.List.{length-map}
 use Rattle.ss_base.specs.Ids.{object_id}
 use Rattle.execution_definitions.specs.declared.call.Reply.TheVariants as reply
@@ -19,8 +19,7 @@ invariant_of-self g c =
       kept = λ usable. kept_added g.C.Class.meaning c.self.inside.store c.add.new.store
           c.self.inside.marks c.add.new.marks c.self.inside.delegates
           (c.self.invariant.kept usable) c.args.value made.added
-          (ap (λ marks. length marks.objects) made.marks
-          ∙ length-append c.self.inside.marks.objects _)
+          _ (ap (λ marks. marks.objects) made.marks)
           (ap (λ marks. marks.is_open) made.marks);
     }
 

@@ -5,6 +5,7 @@ use Rattle.delegation.proofs.runs.FrontLemmas.{fronts_same}
 use Rattle.lane_ends.specs.Workers.{home_given}
 use Rattle.lane_store.proofs.IdleLemmas.{idle_total}
 use Rattle.lane_rt.proofs.CallLemmas.{closed_from, store_done}
+use Rattle.lane_rt.proofs.PlacedLemmas.{placed_on}
 use Rattle.lane_rt.proofs.lanes.LanesRuntime.do_total.Goals as goal
 
 pub invariant_of-self-2 : goal.invariant_of-self-2
@@ -19,6 +20,9 @@ invariant_of-self-2 g c =
         lane_count = kept.lane_count;
         log_count = kept.log_count;
         idle = λ closed. kept.idle (sym (ap (λ marks. marks.is_open) noted) ∙ closed);
+        placed = placed_on c.self.inside.store.objects.items c.self.inside.store.objects.items
+            c.self.inside.marks c.note_call.new.self c.self.inside.delegates
+            (λ n k number is. is) (ap (λ marks. marks.objects) noted) kept.placed;
       };
     }
 
