@@ -105,7 +105,7 @@ same_set object None first second is none = absurd cc
 same_set object (Some k) first second is none =
     sym (same_Some k first is) ∙ by (k == second) refl none
   where
-    by : (b : Bool) → (k == second) ≡ b → 
+    by : (b : Bool) → (k == second) ≡ b →
         refuse_if (not b) (TwoSets (object_id object) (set_id k) (set_id second)) ≡ None → k ≡ second
     by true same none = eqb-true k second same
     by false same none = absurd cc

@@ -75,8 +75,7 @@ module _ {C G O R : Type 0} (m : Meaning C O R) where
       let was = kept.placed o found.0.0 found.0.1 found.1 in
       let held = held_accepted marks o own reading was.set accepted was.held in
       let same : lane ≡ found.0.0 =
-      lane_is ∙ ap (λ s. lane_of_set s n) (set_is ∙ sym held) ∙ was.lane_is in
-      (
+      lane_is ∙ ap (λ s. lane_of_set s n) (set_is ∙ sym held) ∙ was.lane_is in (
         found.1 ∙ ap (λ number. Some (found.0.0, number))
             (kept.whole.apart.number o found.0.0 found.0.1 found.1)
             ∙ ap (λ l. Some (l, o)) (sym same),

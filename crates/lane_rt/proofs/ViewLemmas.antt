@@ -112,12 +112,20 @@ module _ {C G O R : Type 0} (m : Meaning C O R) where
   holds_at [] (end ∷ ends) (suc number) object is =
       let rest = holds_at [] ends number object is in
       record {
-        end = rest.end; at = rest.at; log = rest.log; seen = rest.seen; has = rest.has;
+        end = rest.end;
+        at = rest.at;
+        log = rest.log;
+        seen = rest.seen;
+        has = rest.has;
       }
   holds_at (log ∷ logs) (end ∷ ends) (suc number) object is =
       let rest = holds_at logs ends number object is in
       record {
-        end = rest.end; at = rest.at; log = rest.log; seen = rest.seen; has = rest.has;
+        end = rest.end;
+        at = rest.at;
+        log = rest.log;
+        seen = rest.seen;
+        has = rest.has;
       }
 
   -- a lane that is whole comes to just the objects that it has
@@ -165,8 +173,7 @@ module _ {C G O R : Type 0} (m : Meaning C O R) where
             let found = there_is (found_at store.objects.items object)
             (sym (out_is store.objects.items object) ∙ ap is_out at) in
             let holds = holds_at store.logs.items store.ends.items found.0.0 object
-            (kept.whole.apart.there object found.0.0 found.0.1 found.1) in
-            (
+            (kept.whole.apart.there object found.0.0 found.0.1 found.1) in (
               found.0.0,
               lane_is object found.0.0 found.0.1 found.1,
               record {
@@ -183,8 +190,7 @@ module _ {C G O R : Type 0} (m : Meaning C O R) where
             ∙ sym (ap (λ (lane : LaneView C O R). has_object lane object) seen.is) ∙ is.has in
             let found = kept.whole.apart.only object number
             (ap (λ s. is_some (option_and_then (λ (s : Stored C R). value_of s object) s))
-            (store_here m home_given store.ends.items number seen.end seen.at) ∙ has) in
-            (
+            (store_here m home_given store.ends.items number seen.end seen.at) ∙ has) in (
               out_value store.objects.items object (number, object) found,
               lane_is object number object found,
             );

@@ -39,8 +39,9 @@ impl<C: Class + 'static, G: Gate + 'static> Model for Lanes<C, G> {
     ghost Value = { LanesValue C C.Op C.Red };
 
     ghost view = { λ lanes. record {
-        runtime = seen_of C.meaning lanes.store lanes.marks lanes.delegates lanes.has_failed;
-        running = running_of C.meaning lanes.store lanes.marks lanes.has_failed } };
+      runtime = seen_of C.meaning lanes.store lanes.marks lanes.delegates lanes.has_failed;
+      running = running_of C.meaning lanes.store lanes.marks lanes.has_failed;
+    } };
 
     ghost invariant = { λ lanes. IsKept C.meaning lanes.store lanes.marks lanes.delegates
         lanes.has_failed };
@@ -87,8 +88,8 @@ impl<C: Class + 'static, G: Gate + 'static> Lanes<C, G> {
         match self.marks.delegated_to(o) {
             None => false,
             Some(set) => {
-                let lane = usize::from(lane_of(set, self.delegates).0);
-                is_away(&self.store, o, lane)
+                let there = usize::from(lane_of(set, self.delegates).0);
+                is_away(&self.store, o, there)
             }
         }
     }

@@ -32,4 +32,4 @@ returns-in-Some g c =
     ∙ sym (ap (λ set. out && works_for lanes n set) (sym c.delegated_to.ensures.marked ∙ c.in-Some.is)
     ∙ ap (λ b. b && works (slice_get lanes lane)) (out_is store.objects.items c.args.o.0)
     ∙ ap (λ b. found && b) (works_is m store.logs.items ends lane)
-    ∙ ap (λ l. found && has_worker_at ends l) (sym (c.from-lane.ensures ∙ c.lane_of.ensures))))
+    ∙ ap (λ l. found && has_worker_at ends l) (sym (c.from-there.ensures ∙ c.lane_of.ensures))))

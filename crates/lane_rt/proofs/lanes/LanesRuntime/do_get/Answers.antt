@@ -65,7 +65,7 @@ returns g c =
             sym (ap (λ found. option_map reply.Value found) value),
           ),
           (λ done. out_is new.objects.items c.args.o.0
-          ∙ ap (λ found. is_some found) c.in-Ok.ensures.home),
+              ∙ ap (λ found. is_some found) c.in-Ok.ensures.home),
         ),
       ),
       record { after = tt; value = value },
