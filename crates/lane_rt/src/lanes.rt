@@ -73,8 +73,9 @@ impl<C: Class + 'static, G: Gate + 'static> Lanes<C, G> {
         })
     }
 
-    // What the laws on cuts ask of running lanes holds between calls, as long as memory was found.
-    pub fn hold_together(&self)
+    // What the laws on cuts ask of running lanes holds between calls, as long as memory was found. A
+    // look at any field has the invariant at hand.
+    pub(crate) fn hold_together(&self)
         ensures { self.now.running.has_failed ≡ false → IsKept self.now.running }
     {
         let _has_failed = self.has_failed;
