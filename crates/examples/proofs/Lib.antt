@@ -1,0 +1,4 @@
+pub mod RangeLemmas
+pub mod EpochLemmas
+pub mod HistogramLemmas
+pub mod AccountLemmas

@@ -1,0 +1,4 @@
+pub mod Histograms
+pub mod HistogramCalls
+pub mod Accounts
+pub mod AccountCalls
