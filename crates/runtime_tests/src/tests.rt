@@ -10,6 +10,7 @@ use delegates::OpenGate;
 use delegation::{Call, Delegation, Fault, Plain, Reply, make_call, run_calls};
 use execution_definitions::By;
 use lane_rt::Lanes;
+use lane_rt::laws::{cut_drain, cut_event};
 use script_lang::{Act, Deed, Word32};
 use serializer::lane_of;
 use ss_base::limits::RING;
@@ -332,5 +333,53 @@ fn lanes_fail_for_good(rt: HostRuntime) -> Result<(), Fail> {
             Answer::Done,
         );
     }
+    Ok(())
+}
+
+// An object that was delegated to is away at its delegate until the epoch ends or it is wanted.
+#[test]
+fn lanes_tell_what_is_away(rt: HostRuntime) -> Result<(), Fail> {
+    let gate = Arc::new(rt.alloc(), OpenGate)?;
+    let mut d = Lanes::new(rt.alloc(), 1, 4, gate)?;
+    let object = ObjectId(0);
+    let add = Step::Delegate(0, Act::Add(1), 0, None);
+    assert!(rt; !d.away(object));
+    for step in [Step::Make(5, By::Object), Step::Begin] {
+        let _ = answer(&rt, rt.alloc(), &mut d, step);
+    }
+    assert!(rt; !d.away(object));
+    assert_eq!(rt; answer(&rt, rt.alloc(), &mut d, add), Answer::Sent(2));
+    assert!(rt; d.away(object));
+    assert!(rt; !d.away(ObjectId(1)));
+    cut_event(&d);
+    cut_drain(&d);
+    let end = d.finish(&rt)?;
+    assert_eq!(rt; end.values.len(), 1);
+    assert_eq!(rt; end.values[0].0, 6);
+    assert_eq!(rt; end.total.0, 0);
+    assert_eq!(rt; end.logs.len(), 1);
+    assert_eq!(rt; end.logs[0].runs.len(), 1);
+    Ok(())
+}
+
+// An object that is got is at home again.
+#[test]
+fn lanes_bring_home_what_is_got(rt: HostRuntime) -> Result<(), Fail> {
+    let gate = Arc::new(rt.alloc(), OpenGate)?;
+    let mut d = Lanes::new(rt.alloc(), 2, 4, gate)?;
+    for step in [
+        Step::Make(5, By::Object),
+        Step::Begin,
+        Step::Delegate(0, Act::Add(1), 0, None),
+    ] {
+        let _ = answer(&rt, rt.alloc(), &mut d, step);
+    }
+    assert!(rt; d.away(ObjectId(0)));
+    assert_eq!(rt;
+        answer(&rt, rt.alloc(), &mut d, Step::Get(0)),
+        Answer::Value(6)
+    );
+    assert!(rt; !d.away(ObjectId(0)));
+    d.finish(&rt)?;
     Ok(())
 }
