@@ -13,14 +13,15 @@ pub struct Run {
 }
 
 #[derive(Clone, Copy)]
-#[allow(dead_code)] // the measured program only adds
+#[allow(dead_code)] // the measured programs don't multiply
 pub enum Step {
     Add(u32),
     Mul(u32),
+    /// Multiplies by 31 and adds the value read, or 0 where none is.
+    Mix,
 }
 
 /// A message to a delegate, with the value that its operation reads, if it reads one.
-#[allow(dead_code)] // the measured operations read none
 pub enum Message {
     /// An object, and an operation on it.
     Carry {
@@ -40,41 +41,41 @@ pub enum Message {
 
 #[derive(Default)]
 pub struct Store {
-    values: BTreeMap<u32, u32>,
-    total: u64,
-    runs: Vec<Run>,
+    pub values: BTreeMap<u32, u32>,
+    pub total: u64,
+    pub runs: Vec<Run>,
 }
 
 impl Store {
     pub fn take(&mut self, message: Message) {
         match message {
-            Message::Carry { run, value, op, .. } => {
+            Message::Carry {
+                run,
+                value,
+                op,
+                reading,
+            } => {
                 self.values.insert(run.object, value);
-                self.run(run, op);
+                self.run(run, op, reading);
             }
-            Message::Run { run, op, .. } => self.run(run, op),
+            Message::Run { run, op, reading } => self.run(run, op, reading),
             Message::Stop => {}
         }
     }
 
     // Runs an operation and logs it, where its object is there. Each contributes 1.
-    fn run(&mut self, run: Run, op: Step) {
+    fn run(&mut self, run: Run, op: Step, reading: Option<Arc<u32>>) {
         if let Some(value) = self.values.get_mut(&run.object) {
             *value = match op {
                 Step::Add(number) => value.wrapping_add(number),
                 Step::Mul(number) => value.wrapping_mul(number),
+                Step::Mix => value
+                    .wrapping_mul(31)
+                    .wrapping_add(reading.map_or(0, |read| *read)),
             };
             self.total = self.total.wrapping_add(1);
             self.runs.push(run);
         }
-    }
-
-    pub fn runs(&self) -> usize {
-        self.runs.len()
-    }
-
-    pub fn total(&self) -> u64 {
-        self.total
     }
 
     /// The sum of the values, each times its object's number.

@@ -1,6 +1,7 @@
 //! Does what the measured program does, in plain Rust, and prints the same lines: of each part
 //! `part name times nanoseconds`, and of each checksum `checksum name value`.
 
+mod checks;
 mod counts;
 mod delegation;
 mod marks;
@@ -13,7 +14,7 @@ fn part(name: &str, times: u32, start: Instant) {
 }
 
 fn main() {
-    marks::measure();
+    checks::measure();
     delegation::measure();
     counts::measure();
 }

@@ -1,16 +1,5 @@
 //! The partition check over a `Vec` of small marks, with the tests of the measured crate in its
-//! order. A call tests and marks at once.
-
-use std::time::Instant;
-
-use crate::part;
-
-const OBJECTS: u32 = 65_536;
-const FEW_OBJECTS: u32 = 16;
-const DELEGATIONS: u32 = 1_000_000;
-const EPOCHS: u32 = 1_000;
-// Odd, so that its multiples reach each of the objects before any comes again.
-const STRIDE: u32 = 40_503;
+//! order. A call tests and marks at once. The program of lanes has this file too.
 
 const MOST_CALLS: u64 = 1 << 60;
 
@@ -24,7 +13,7 @@ enum By {
 
 #[derive(Debug)]
 #[allow(dead_code)] // what a refusal tells is only printed
-enum Refusal {
+pub enum Refusal {
     UnknownObject(u32),
     NotIsolating,
     Isolating,
@@ -53,7 +42,8 @@ impl Mark {
     }
 }
 
-struct Marks {
+/// What the rule knows of a program's calls.
+pub struct Marks {
     objects: Vec<Mark>,
     calls: u64,
     epochs: u64,
@@ -61,8 +51,8 @@ struct Marks {
 }
 
 impl Marks {
-    // Objects that are mapped by the object, and one more that is read-only.
-    fn new(objects: u32) -> Marks {
+    /// Objects that are mapped by the object, and one more that is read-only.
+    pub fn new(objects: u32) -> Marks {
         let objects = (0..objects)
             .map(|_| Some(By::Object))
             .chain([None])
@@ -82,7 +72,15 @@ impl Marks {
         }
     }
 
-    fn begin(&mut self) -> Result<(), Refusal> {
+    pub fn calls(&self) -> u64 {
+        self.calls
+    }
+
+    pub fn epoch(&self) -> u64 {
+        self.epochs
+    }
+
+    pub fn begin(&mut self) -> Result<(), Refusal> {
         if self.is_open {
             return Err(Refusal::Isolating);
         }
@@ -92,7 +90,7 @@ impl Marks {
         Ok(())
     }
 
-    fn end(&mut self) -> Result<(), Refusal> {
+    pub fn end(&mut self) -> Result<(), Refusal> {
         if !self.is_open {
             return Err(Refusal::NotIsolating);
         }
@@ -101,7 +99,12 @@ impl Marks {
         Ok(())
     }
 
-    fn delegate(&mut self, object: u32, own: u64, reading: Option<u32>) -> Result<u64, Refusal> {
+    pub fn delegate(
+        &mut self,
+        object: u32,
+        own: u64,
+        reading: Option<u32>,
+    ) -> Result<u64, Refusal> {
         let epoch = self.epochs;
         let mark = match self.objects.get(object as usize) {
             None => return Err(Refusal::UnknownObject(object)),
@@ -148,7 +151,8 @@ impl Marks {
         Ok(set)
     }
 
-    fn delegated_to(&self, object: u32) -> Option<u64> {
+    #[allow(dead_code)] // of the programs that have this file one asks
+    pub fn delegated_to(&self, object: u32) -> Option<u64> {
         let mark = self.objects.get(object as usize)?;
         (self.is_open && mark.set_epoch == self.epochs).then_some(mark.set)
     }
@@ -160,62 +164,4 @@ impl Marks {
         self.calls += 1;
         Ok(())
     }
-}
-
-pub fn measure() {
-    let mut many = Marks::new(OBJECTS);
-    let in_order = delegations(&mut many, "delegate_in_order", 1, None);
-    let scattered = delegations(&mut many, "delegate_scattered", STRIDE, None);
-    let reading = delegations(&mut many, "delegate_reading", STRIDE, Some(OBJECTS));
-    let mut few = Marks::new(FEW_OBJECTS);
-    let of_many = epochs(&mut many, "epoch_many_objects");
-    let of_few = epochs(&mut few, "epoch_few_objects");
-    println!("checksum in_order {in_order}");
-    println!("checksum scattered {scattered}");
-    println!("checksum reading {reading}");
-    println!("checksum many {of_many}");
-    println!("checksum few {of_few}");
-}
-
-// An epoch of delegations, each to the object `stride` after the last. Gives what they answered
-// and left.
-fn delegations(marks: &mut Marks, name: &str, stride: u32, reading: Option<u32>) -> u64 {
-    marks.begin().unwrap();
-    let start = Instant::now();
-    let answered = delegate_all(marks, stride, reading).unwrap();
-    part(name, DELEGATIONS, start);
-    let left = (0..OBJECTS).fold(0u64, |sum, number| match marks.delegated_to(number) {
-        Some(set) => sum.wrapping_add(set.wrapping_mul(u64::from(number))),
-        None => sum,
-    });
-    marks.end().unwrap();
-    answered.wrapping_add(left).wrapping_add(marks.calls)
-}
-
-#[inline(never)] // so that nothing is known of the arguments
-fn delegate_all(marks: &mut Marks, stride: u32, reading: Option<u32>) -> Result<u64, Refusal> {
-    let mut sum = 0u64;
-    for number in 0..DELEGATIONS {
-        let object = number.wrapping_mul(stride) % OBJECTS;
-        let set = marks.delegate(object, 0, reading)?;
-        sum = sum.wrapping_add(set ^ u64::from(number));
-    }
-    Ok(sum)
-}
-
-// Epochs with nothing in them. Gives the counts that they left.
-fn epochs(marks: &mut Marks, name: &str) -> u64 {
-    let start = Instant::now();
-    pass_epochs(marks).unwrap();
-    part(name, EPOCHS, start);
-    marks.calls.wrapping_add(marks.epochs)
-}
-
-#[inline(never)] // so that nothing is known of the marks
-fn pass_epochs(marks: &mut Marks) -> Result<(), Refusal> {
-    for _ in 0..EPOCHS {
-        marks.begin()?;
-        marks.end()?;
-    }
-    Ok(())
 }
