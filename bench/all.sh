@@ -32,10 +32,16 @@ run() {
 # The crates: what is built first is kept for the next.
 run runtime "$here/runtime.py" --keep "$out/built" --at-most-check 2.2 --at-most-addition 10 --at-most-batch 4
 run judges "$here/judges.py" --keep "$out/built" --at-most-growth 2.2 --at-most-script 3
-run lanes "$here/lanes.py" --keep "$out/built" --at-most-plain 1.5
+run lanes "$here/lanes.py" --keep "$out/built" --at-most-plain 1.5 --at-most-epoch 2
 
-# The program.
+# The program, first on delegates, beside the yardstick on four threads.
+target=${CARGO_TARGET_DIR:-$here/work/baseline}
+(cd "$here/baseline" && CARGO_TARGET_DIR=$target cargo build --release --quiet --offline) || exit 1
+run delegates-index "$here/delegates.py" "$ssidx" "$corpora"/manuals-62/* --only index \
+    --baseline "$target/release/baseline" --at-most-one 1.15 --at-most-four 0.55 --at-most-peak 1.3
 run delegates "$here/delegates.py" "$ssidx" "$corpora"/manuals-8/* --at-most-one 1.25 --at-most-four 0.6
+run delegates-batch "$here/delegates.py" "$ssidx" "$corpora"/manuals-8/* --mode batch \
+    --at-most-one 1.25 --at-most-four 0.6
 run script "$here/script.py" "$ssidx" --at-most-plain 2.5 --at-most-growth 2.2
 for corpus in manuals-8 manuals-62 multilingual-8 multilingual-62; do
     run "ratio-$corpus" "$here/ratio.py" "$ssidx" "$corpora/$corpus"/* --args='--delegates 0' \
@@ -46,6 +52,7 @@ run ratio-one-document "$here/ratio.py" --stdin "$ssidx" "$corpora/english.txt" 
 run hard-documents "$here/hard_documents.py" "$ssidx" --english "$corpora"/manuals-62/* --at-most-english 8 --compare
 
 # What isn't timed.
+run many-runs "$here/many_runs.py" "$ssidx"
 run word-breaks "$here/word_breaks.py" "$ssidx"
 run bad-inputs "$here/bad_inputs.py" "$ssidx" --english "$corpora/english.txt" --compare
 run refused-memory "$here/refused_memory.py" "$ssidx"

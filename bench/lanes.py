@@ -4,9 +4,12 @@
     lanes.py
 
 The measured program is lanes/*.rt.txt, a crate of its own in a clone of the repository's last commit; the yardstick
-is lanes/plain/, whose lanes are bounded channels of crossbeam-channel. Three things are done with it:
+is lanes/plain/, whose lanes are bounded channels of crossbeam-channel. Four things are done with it:
 
     rings   a million messages through one lane, and through four, each with its delegate in a thread: the two
+            programs take turns, and the least times are compared
+    epoch   a million delegated operations on the runtime with lanes, from the first to the end of their epoch, on 1 and
+            4 delegates and over 4, 16 and 65,536 objects: additions, and operations that each read an object. The two
             programs take turns, and the least times are compared
     narrow  1,000 messages through a lane of one place, with pauses before them, again and again: each run ends
             within the time limit, or a wake-up was lost
@@ -25,8 +28,17 @@ from measure import HERE, cargo_program, is_within
 from parts import best_parts, load, parser_of, rattle_program, room
 
 SOURCES = pathlib.Path(HERE) / "lanes"
-DEPENDENCIES = "ss_base class_laws set_queue delegates lane_tests crossbeam_utils"
+DEPENDENCIES = (
+    "ss_base execution_definitions class_laws delegation set_queue delegates lane_rt lane_tests script_lang crossbeam_utils"
+)
 RINGS = {"one_lane": "one lane", "four_lanes": "four lanes"}
+OPERATIONS = {"add": "additions", "mix": "operations that read"}
+EPOCHS = {
+    f"{name}_{delegates}_{objects}": f"{text}, {delegates} delegate(s), {objects} objects"
+    for delegates in (1, 4)
+    for objects in (4, 16, 65_536)
+    for name, text in OPERATIONS.items()
+}
 # 0 + 1 + .. + 999, on the object 1.
 NARROW = "checksum runs 1000\nchecksum sum 499500\n"
 PAIRS = """\
@@ -38,16 +50,17 @@ checksum met_in_one_lane 0
 """
 
 
-def compare_rings(programs, repeats, limit):
+def compare(programs, parts, repeats, limit):
+    """The times of each part beside those of plain Rust. `parts` gives the parts' texts by their names."""
     before = load()
     best = best_parts(programs, repeats)
     print(f"{repeats} runs of each; {before} before them, {load()} after")
     within = []
-    for part, text in RINGS.items():
+    for part, text in parts.items():
         (times, ours), (plain_times, theirs) = (best[name][part] for name in programs)
         if times != plain_times:
-            sys.exit(f"the two send different numbers of messages through {text}")
-        print(f"{text}: {ours / times:.1f} ns a message, plain Rust {theirs / times:.1f} ns")
+            sys.exit(f"the two do {text} at different sizes")
+        print(f"{text}: {ours / times:.1f} ns each, plain Rust {theirs / times:.1f} ns")
         within.append(is_within(f"{text} / plain Rust", ours / theirs, limit))
     return all(within)
 
@@ -74,6 +87,7 @@ def repeat(what, words_of, runs, seconds, wanted):
 def main():
     parser = parser_of(__doc__, repeats=12)
     parser.add_argument("--at-most-plain", type=float, metavar="X", help="limit on: a lane's time / plain Rust's")
+    parser.add_argument("--at-most-epoch", type=float, metavar="X", help="limit on: an epoch's time / plain Rust's")
     parser.add_argument("--narrow", type=int, default=10_000, metavar="N", help="runs through a lane of one place (10,000)")
     parser.add_argument("--pairs", type=int, default=1_000, metavar="N", help="runs of two sets at a gate (1,000)")
     parser.add_argument("--seconds", type=float, default=20.0, help="the time limit of each of these runs (20)")
@@ -82,10 +96,11 @@ def main():
     with room(options.keep) as folder:
         plain = cargo_program(SOURCES / "plain", os.path.join(folder, "lanes"))
         lanes = rattle_program(SOURCES, "lanes_bench", DEPENDENCIES, folder)
-        rings = {"Rattle": [lanes, "rings"], "plain": [plain]}
+        rings, epochs = ({"Rattle": [lanes, part], "plain": [plain, part]} for part in ("rings", "epoch"))
         # A list, so that all is done.
         within = [
-            compare_rings(rings, options.repeats, options.at_most_plain),
+            compare(rings, RINGS, options.repeats, options.at_most_plain),
+            compare(epochs, EPOCHS, options.repeats, options.at_most_epoch),
             repeat("a lane of one place", lambda number: [lanes, "narrow", str(number)], options.narrow, options.seconds, NARROW),
             repeat("two sets at a gate", lambda _: [lanes, "pairs"], options.pairs, options.seconds, PAIRS),
         ]

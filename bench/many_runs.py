@@ -26,7 +26,6 @@ DELEGATES = (1, 2, 4, 64)
 RINGS = (1, 2, 256)
 DOCUMENTS = 50
 SEED = 20_090_214
-SECONDS = 10.0
 MOST_TOLD = 20  # of the runs that went wrong
 DONE, REFUSED = 0, 7
 PR_SET_CHILD_SUBREAPER = 36
@@ -194,15 +193,15 @@ def is_left(group):
     return True
 
 
-def run(ssidx, job, options):
-    """Runs a command in a process group of its own."""
+def run(ssidx, job, options, seconds):
+    """Runs a command in a process group of its own, and kills it at the time limit."""
     words = [ssidx, *job.command, *options, *job.rest]
     start = time.perf_counter()
     child = subprocess.Popen(
         words, stdin=subprocess.DEVNULL, stdout=subprocess.PIPE, stderr=subprocess.PIPE, start_new_session=True
     )
     try:
-        out, err = child.communicate(timeout=SECONDS)
+        out, err = child.communicate(timeout=seconds)
     except subprocess.TimeoutExpired:
         os.killpg(child.pid, 9)
         child.communicate()
@@ -210,11 +209,11 @@ def run(ssidx, job, options):
     return Ran(time.perf_counter() - start, (child.returncode, out, err), is_left(child.pid))
 
 
-def wanted_of(ssidx, jobs):
+def wanted_of(ssidx, jobs, seconds):
     """What each prints without delegates. One that ends otherwise than it must would compare nothing."""
     wanted = {}
     for job in jobs:
-        ran = run(ssidx, job, ["--delegates", "0"])
+        ran = run(ssidx, job, ["--delegates", "0"], seconds)
         if not ran.answer or ran.answer[0] != job.status:
             sys.exit(f"{job.name} without delegates: wanted status {job.status}, and it answered {ran.answer!r}")
         wanted[job] = ran.answer
@@ -223,7 +222,7 @@ def wanted_of(ssidx, jobs):
 
 def difference(answer, wanted):
     if not answer:
-        return f"didn't end within {SECONDS:g} s"
+        return "didn't end within the time limit"
     names = ("status", "standard output", "error stream")
     pairs = zip(names, answer, wanted)
     return "; ".join(f"{name} {got!r:.200} and not {want!r:.200}" for name, got, want in pairs if got != want)
@@ -265,6 +264,7 @@ def main():
     parser = argparse.ArgumentParser(description=__doc__, formatter_class=argparse.RawDescriptionHelpFormatter)
     parser.add_argument("--runs", type=int, default=10_000, metavar="N", help="runs in all (10,000)")
     parser.add_argument("--jobs", type=int, default=os.cpu_count(), metavar="N", help="runs at once (one a processor)")
+    parser.add_argument("--seconds", type=float, default=10.0, help="the time limit of each run (10)")
     parser.add_argument("ssidx")
     options = parser.parse_args()
     ssidx = os.path.abspath(options.ssidx)
@@ -272,11 +272,12 @@ def main():
 
     def run_kind(kind):
         delegates, ring, job = kind
-        return run(ssidx, job, ["--mode", "lanes", "--delegates", str(delegates), "--ring", str(ring)])
+        words = ["--mode", "lanes", "--delegates", str(delegates), "--ring", str(ring)]
+        return run(ssidx, job, words, options.seconds)
 
     with tempfile.TemporaryDirectory() as folder:
         jobs = make_jobs(folder)
-        wanted = wanted_of(ssidx, jobs)
+        wanted = wanted_of(ssidx, jobs, options.seconds)
         all_kinds = itertools.cycle(itertools.product(DELEGATES, RINGS, jobs))
         kinds = list(itertools.islice(all_kinds, options.runs))
         with concurrent.futures.ThreadPoolExecutor(options.jobs) as pool:
