@@ -3,14 +3,14 @@
 
     delegates.py SSIDX FILE...
 
-Runs `gen 64 1000 1` and the index of the files with 0, 1 and 4 delegates, in threads (`--mode lanes`) or as pending
-lists (`--mode batch`). Prints the least wall and processor times of the repeats and the highest peaks of memory, and
-their ratios to those with 0 delegates. Where the yardstick's program is given, its `fast 4` takes its turns at the
-index, and has to print the same.
+Runs `gen 64 1000 1` and the index of the files with 0, 1 and 4 delegates, in threads (`--mode lanes`) or as
+pending lists (`--mode batch`). Prints the least wall and processor times of the repeats and the highest peaks
+of memory, and their ratios to those with 0 delegates. Where the yardstick's program is given, its `fast 4`
+takes its turns at the index, and has to print the same.
 
-Ends with 1 where a run fails, prints something else, or a ratio is over its limit: of wall times both of `gen` and the
-index, of peaks that of the index alone, since `gen` takes less memory than a script can see. The ratio with 4 delegates
-needs four idle processors.
+Ends with 1 where a run fails, prints something else, or a ratio is over its limit: of wall times both of `gen`
+and the index, of peaks that of the index alone, since `gen` takes less memory than a script can see. The ratio
+with 4 delegates needs four idle processors.
 """
 import argparse
 import os
@@ -55,7 +55,8 @@ def compare(text, best, options, most_peak):
     none, one, four = (best[name] for name in (NONE, ONE, FOUR))
     for name, run in best.items():
         print(f"  {name}: {run.seconds:.4f} s, processor time {run.processor_seconds:.4f} s, "
-              f"{run.processor_seconds / none.processor_seconds:.2f} x that of 0, peak {run.peak_bytes / MIB:.1f} MiB")
+              f"{run.processor_seconds / none.processor_seconds:.2f} x that of 0, "
+              f"peak {run.peak_bytes / MIB:.1f} MiB")
     if FAST in best:
         is_within(f"  {FOUR} / {FAST}", four.seconds / best[FAST].seconds, None)
     # A list, so that every figure is shown.
@@ -69,25 +70,28 @@ def compare(text, best, options, most_peak):
 def main():
     parser = argparse.ArgumentParser(description=__doc__, formatter_class=argparse.RawDescriptionHelpFormatter)
     parser.add_argument("--repeats", type=int, default=15, help="runs with each number of delegates (15)")
-    parser.add_argument("--mode", choices=("lanes", "batch"), default="lanes", help="how delegates run (lanes)")
+    modes = ("lanes", "batch")
+    parser.add_argument("--mode", choices=modes, default="lanes", help="how delegates run (lanes)")
     parser.add_argument("--only", choices=("gen", "index"), help="runs this command alone")
     parser.add_argument("--baseline", metavar="PROGRAM", help="the built program of baseline/")
     parser.add_argument("--at-most-one", type=float, metavar="X", help="limit on: the time with 1 delegate / with 0")
     parser.add_argument("--at-most-four", type=float, metavar="X", help="limit on: the time with 4 delegates / with 0")
-    parser.add_argument("--at-most-peak", type=float, metavar="X", help="limit on: the index's peak with 4 delegates / with 0")
+    peak = "limit on: the index's peak with 4 delegates / with 0"
+    parser.add_argument("--at-most-peak", type=float, metavar="X", help=peak)
     parser.add_argument("ssidx")
     parser.add_argument("files", nargs="+", metavar="FILE")
     options = parser.parse_args()
     size = sum(map(os.path.getsize, options.files))
     print(f"{options.repeats} runs of each, mode {options.mode}; load {os.getloadavg()[0]:.1f} before them")
     print(f"no peak below {held_bytes() / MIB:.1f} MiB can be seen")
+    most_peak = options.at_most_peak
     jobs = {
         "gen": ("gen 64 1000 1", ["64", "1000", "1"], None),
-        "index": (f"index of {len(options.files)} document(s), {size} bytes", options.files, options.at_most_peak),
+        "index": (f"index of {len(options.files)} document(s), {size} bytes", options.files, most_peak),
     }
     within = [
-        compare(text, best_runs(words_for(options, command, rest), options.repeats), options, most_peak)
-        for command, (text, rest, most_peak) in jobs.items()
+        compare(text, best_runs(words_for(options, command, rest), options.repeats), options, peak)
+        for command, (text, rest, peak) in jobs.items()
         if options.only in (None, command)
     ]
     sys.exit(0 if all(within) else 1)

@@ -8,9 +8,9 @@ is lanes/plain/, whose lanes are bounded channels of crossbeam-channel. Four thi
 
     rings   a million messages through one lane, and through four, each with its delegate in a thread: the two
             programs take turns, and the least times are compared
-    epoch   a million delegated operations on the runtime with lanes, from the first to the end of their epoch, on 1 and
-            4 delegates and over 4, 16 and 65,536 objects: additions, and operations that each read an object. The two
-            programs take turns, and the least times are compared
+    epoch   a million delegated operations on the runtime with lanes, from the first to the end of their
+            epoch, on 1 and 4 delegates and over 4, 16 and 65,536 objects: additions, and operations that each
+            read an object. The two programs take turns, and the least times are compared
     narrow  1,000 messages through a lane of one place, with pauses before them, again and again: each run ends
             within the time limit, or a wake-up was lost
     pairs   two sets look for each other at a gate, again and again: in two lanes they meet, in one they don't
@@ -29,7 +29,8 @@ from parts import best_parts, load, parser_of, rattle_program, room
 
 SOURCES = pathlib.Path(HERE) / "lanes"
 DEPENDENCIES = (
-    "ss_base execution_definitions class_laws delegation set_queue delegates lane_rt lane_tests script_lang crossbeam_utils"
+    "ss_base execution_definitions class_laws delegation set_queue delegates lane_rt lane_tests script_lang "
+    "crossbeam_utils"
 )
 RINGS = {"one_lane": "one lane", "four_lanes": "four lanes"}
 OPERATIONS = {"add": "additions", "mix": "operations that read"}
@@ -87,7 +88,8 @@ def repeat(what, words_of, runs, seconds, wanted):
 def main():
     parser = parser_of(__doc__, repeats=12)
     parser.add_argument("--at-most-plain", type=float, metavar="X", help="limit on: a lane's time / plain Rust's")
-    parser.add_argument("--at-most-epoch", type=float, metavar="X", help="limit on: an epoch's time / plain Rust's")
+    epoch = "limit on: an epoch's time / plain Rust's"
+    parser.add_argument("--at-most-epoch", type=float, metavar="X", help=epoch)
     parser.add_argument("--narrow", type=int, default=10_000, metavar="N", help="runs through a lane of one place (10,000)")
     parser.add_argument("--pairs", type=int, default=1_000, metavar="N", help="runs of two sets at a gate (1,000)")
     parser.add_argument("--seconds", type=float, default=20.0, help="the time limit of each of these runs (20)")

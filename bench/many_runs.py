@@ -3,12 +3,13 @@
 
     many_runs.py SSIDX
 
-Makes 50 small documents and ten scripts, always the same. `index` of the documents, and `script --trace` of each
-script, are run with `--mode lanes`, each number of delegates and each room of lanes in turns, 10,000 runs in all.
-What a run prints on both streams, and its status, are compared byte by byte with the run with 0 delegates.
+Makes 50 small documents and ten scripts, always the same. `index` of the documents, and `script --trace` of
+each script, are run with `--mode lanes`, each number of delegates and each room of lanes in turns, 10,000
+runs in all. What a run prints on both streams, and its status, are compared byte by byte with the run with
+0 delegates.
 
-Ends with 1 where a run differs or doesn't end within its time limit, or leaves a process behind. A process has ended
-once its last thread has, so then no thread is left either.
+Ends with 1 where a run differs or doesn't end within its time limit, or leaves a process behind. A process
+has ended once its last thread has, so then no thread is left either.
 """
 import argparse
 import concurrent.futures
@@ -31,7 +32,8 @@ DONE, REFUSED = 0, 7
 PR_SET_CHILD_SUBREAPER = 36
 ACTS = ("add 7", "mul 3", "set 11", "give", "add 4294967295", "mul 2654435761")
 WORDS = (
-    "rain Harvest LADDER gloves ada ben tarpaulin Straße STRASSE naïve Ωmega e\u0301te\u0301 don't 3.14 a b c \ufffd 日本"
+    "rain Harvest LADDER gloves ada ben tarpaulin Straße STRASSE naïve Ωmega "
+    "e\u0301te\u0301 don't 3.14 a b c \ufffd 日本"
 ).split()
 
 
@@ -78,7 +80,8 @@ def own_sets(rng):
     """In an epoch an object keeps its set, and in the next it has another."""
 
     def body(epoch):
-        return [f"do x{i} {rng.choice(ACTS)} in {(i * 7 + epoch * 5) % 97}" for i in rng.choices(range(40), k=250)]
+        which = rng.choices(range(40), k=250)
+        return [f"do x{i} {rng.choice(ACTS)} in {(i * 7 + epoch * 5) % 97}" for i in which]
 
     return [*objects(40, "own"), *epochs(8, body), *shows(40)]
 
@@ -136,7 +139,8 @@ def one_set(_):
 def a_second_set(rng):
     """Refused in an epoch, while delegates are at work."""
     body = [f"do x{i} {rng.choice(ACTS)} in {i}" for i in rng.choices(range(20), k=400)]
-    return [*objects(20, "own"), "show x3", "isolate", *body, "do x0 add 1 in 0", "do x0 add 1 in 1", "show x0"]
+    sets = ["do x0 add 1 in 0", "do x0 add 1 in 1"]
+    return [*objects(20, "own"), "show x3", "isolate", *body, *sets, "show x0"]
 
 
 def a_read_object(rng):
@@ -198,7 +202,11 @@ def run(ssidx, job, options, seconds):
     words = [ssidx, *job.command, *options, *job.rest]
     start = time.perf_counter()
     child = subprocess.Popen(
-        words, stdin=subprocess.DEVNULL, stdout=subprocess.PIPE, stderr=subprocess.PIPE, start_new_session=True
+        words,
+        stdin=subprocess.DEVNULL,
+        stdout=subprocess.PIPE,
+        stderr=subprocess.PIPE,
+        start_new_session=True,
     )
     try:
         out, err = child.communicate(timeout=seconds)
@@ -215,7 +223,7 @@ def wanted_of(ssidx, jobs, seconds):
     for job in jobs:
         ran = run(ssidx, job, ["--delegates", "0"], seconds)
         if not ran.answer or ran.answer[0] != job.status:
-            sys.exit(f"{job.name} without delegates: wanted status {job.status}, and it answered {ran.answer!r}")
+            sys.exit(f"{job.name} without delegates: status {job.status} is wanted, not {ran.answer!r}")
         wanted[job] = ran.answer
     return wanted
 
@@ -256,16 +264,18 @@ def tell(kinds, results, wanted):
     print(f"{len(results)} runs: {len(results) - wrong} like those without delegates, {wrong} not")
     print(f"the slowest took {slowest[0]:.3f} s: {slowest[1]}")
     is_more = has_child()
-    print(f"{left} left a process in their group, and {'something else is left' if is_more else 'nothing else is left'}")
+    print(f"{left} left a process, {'and something else is left' if is_more else 'and no process or thread is left'}")
     return bool(results) and not wrong and not left and not is_more
 
 
 def main():
-    parser = argparse.ArgumentParser(description=__doc__, formatter_class=argparse.RawDescriptionHelpFormatter)
-    parser.add_argument("--runs", type=int, default=10_000, metavar="N", help="runs in all (10,000)")
-    parser.add_argument("--jobs", type=int, default=os.cpu_count(), metavar="N", help="runs at once (one a processor)")
-    parser.add_argument("--seconds", type=float, default=10.0, help="the time limit of each run (10)")
-    parser.add_argument("ssidx")
+    form = argparse.RawDescriptionHelpFormatter
+    parser = argparse.ArgumentParser(description=__doc__, formatter_class=form)
+    add = parser.add_argument
+    add("--runs", type=int, default=10_000, metavar="N", help="runs in all (10,000)")
+    add("--jobs", type=int, default=os.cpu_count(), metavar="N", help="runs at once (one a processor)")
+    add("--seconds", type=float, default=10.0, help="the time limit of each run (10)")
+    add("ssidx")
     options = parser.parse_args()
     ssidx = os.path.abspath(options.ssidx)
     adopt()
