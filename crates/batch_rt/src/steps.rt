@@ -26,7 +26,7 @@ use execution_definitions::By;
 use jobs::Starter;
 use partition_check::{MarkFault, Marks};
 use serializer::lane_of;
-use ss_base::{LaneLog, ObjectId, OutOfMemory, Run};
+use ss_base::{ObjectId, OutOfMemory, Run};
 use std::alloc::{AllocError, Global};
 use std::mem;
 use std::sync::Arc;
@@ -62,14 +62,6 @@ fn join_part<C: LocalClass>(
     }
 }
 
-fn append_runs(log: &mut LaneLog, ran: Vec<Run>) -> Result<(), OutOfMemory>
-    ensures { OnOk result (log.new ≡ log.old ++ ran.items) }
-{
-    let mut ran = ran;
-    log.runs.append(&mut ran)?;
-    Ok(())
-}
-
 // Brings a lane home that has nothing pending: its objects, what it contributed, and what it ran.
 fn come_home<C: LocalClass>(store: &mut Store<C>, lane: usize) -> Result<(), OutOfMemory>
     requires whole { IsWholeStore store.old }
@@ -88,7 +80,7 @@ fn come_home<C: LocalClass>(store: &mut Store<C>, lane: usize) -> Result<(), Out
     } = mem::replace(&mut store.lanes[lane], empty_lane(alloc));
     bring_values(&mut store.objects, numbers, values);
     join_part::<C>(&mut store.total, part)?;
-    append_runs(&mut store.logs[lane], ran)
+    store.logs[lane].append(ran)
 }
 
 /// Runs a lane and brings it home.

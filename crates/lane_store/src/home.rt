@@ -1,5 +1,5 @@
 // Lanes come home: their objects, what they contributed, and what they ran.
-ghost use Rattle.std.specs.Prelude.{◌≡◌, ◌<◌, ◌++◌, OnOk, length};
+ghost use Rattle.std.specs.Prelude.{◌≡◌, ◌<◌, OnOk, length};
 ghost use Rattle.lane_store.specs.LaneStores.{IsWholeStore, AreIdle, Continues, ComesHome};
 
 use crate::store::LaneStore;
@@ -7,17 +7,9 @@ use class_laws::{LocalClass, LocalReducible};
 use delegates::Home;
 use lane_ends::{LaneWorker, Taker, come_home, end_work};
 use lane_objects::bring_values;
-use ss_base::{LaneLog, OutOfMemory, Run};
+use ss_base::OutOfMemory;
 use std::sync::Wait;
 use std::thread::Threads;
-
-fn append_runs(log: &mut LaneLog, ran: Vec<Run>) -> Result<(), OutOfMemory>
-    ensures { OnOk result (log.new ≡ log.old ++ ran.items) }
-{
-    let mut ran = ran;
-    log.runs.append(&mut ran)?;
-    Ok(())
-}
 
 fn join_total<C: LocalClass>(total: &mut C::LocalRed, more: C::LocalRed) -> Result<(), OutOfMemory>
     ensures { OnOk result (total.new ≡ C.local_meaning.join total.old more) }
@@ -43,7 +35,7 @@ pub fn bring_home<C: LocalClass, W: LaneWorker<C>, R: Threads + Wait>(
     } = come_home(rt, &mut store.ends[lane])?;
     bring_values(&mut store.objects, &mut held);
     join_total::<C>(&mut store.total, held.take_red(alloc))?;
-    append_runs(&mut store.logs[lane], held.take_runs(alloc))?;
+    store.logs[lane].append(held.take_runs(alloc))?;
     let home = Home {
         store: held,
         receiver,

@@ -1,5 +1,7 @@
 // Numbers of objects, sets, lanes and calls, and the log of what a lane ran.
+ghost use Rattle.std.specs.Prelude.{◌≡◌, ◌++◌, OnOk};
 
+use crate::OutOfMemory;
 use std::marker::Model;
 
 /// An object's number: objects are numbered from 0 in the order in which they were made.
@@ -44,6 +46,20 @@ impl Model for LaneLog {
     ghost Value = { List Run };
 
     ghost view = { λ log. log.runs.items };
+}
+
+impl LaneLog {
+    /// Adds runs behind those that the log has. An empty log takes them as they are.
+    pub fn append(&mut self, mut runs: Vec<Run>) -> Result<(), OutOfMemory>
+        ensures { OnOk result (self.new ≡ self.old ++ runs.items) }
+    {
+        if self.runs.is_empty() {
+            self.runs = runs;
+            return Ok(());
+        }
+        self.runs.append(&mut runs)?;
+        Ok(())
+    }
 }
 
 /// A step of a schedule.

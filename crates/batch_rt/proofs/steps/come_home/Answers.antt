@@ -20,12 +20,12 @@ returns g c =
     c.requires.logged c.index_mut-2.ensures.value in
     let taken = c.replace-numbers.ensures.value in
     let empty = c.empty_lane.ensures in
-    on_ok_weaker c.append_runs.result
+    on_ok_weaker c.append.result
     (λ appended. comes_home m store (record store {
       objects = c.bring_values.new.objects;
       total = c.join_part.new.total;
       lanes = with_item store.lanes c.args.lane new;
-      logs = with_item store.logs c.args.lane c.append_runs.new.log;
+      logs = with_item store.logs c.args.lane c.append.new.self;
     }) c.args.lane old new log
     (laws_from m _ _ g.met.C.LocalClass.local_same_unit g.met.C.LocalClass.local_same_join
     g.met.C.LocalRed.LocalReducible.local_laws)
@@ -40,4 +40,4 @@ returns g c =
     logged (rw (sym taken) c.bring_values.ensures) (rw (sym taken) c.in_ok-join_part.ensures) refl
     (ap (λ log. slice_set store.logs.items c.args.lane log)
     (appended ∙ ap (λ lane. log ++ lane.ran.items) taken)))
-    c.append_runs.ensures
+    c.append.ensures

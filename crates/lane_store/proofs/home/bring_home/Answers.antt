@@ -51,4 +51,4 @@ returns g c =
     (c.in_ok-join_total.ensures ∙ ap (λ more. m.join store.total more) total_is)
     (set-set ends lane mid _)
     (ap (λ runs. slice_set store.logs.items lane runs)
-    (c.in_ok-append_runs.ensures ∙ ap (λ runs. log ++ runs) runs_are))
+    (c.in_ok-append.ensures ∙ ap (λ runs. log ++ runs) runs_are))
