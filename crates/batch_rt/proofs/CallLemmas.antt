@@ -1,10 +1,8 @@
 -- What calls of the runtime need of a store.
-use Rattle.std.proofs.Common.{◌≡◌, ℕ, zero, suc, Bool, true, false, Option, Some, None, List, [], ◌∷◌, ◌++◌, length, refl, sym, subst}
+use Rattle.std.proofs.Common.{◌≡◌, ℕ, zero, suc, Bool, false, Option, Some, None, List, [], ◌∷◌, ◌++◌, length, sym, subst}
 use Rattle.std.specs.Prelude.{Result, Ok, Err, OnOk}
 use Rattle.std.proofs.lemmas.Option.{same_Some}
 use Rattle.ss_base.specs.declared.ids.SetId.{SetId}
-use Rattle.execution_definitions.specs.declared.refusal.Refusal.{Refusal}
-use Rattle.execution_definitions.specs.Refusals.{first_of, refuse_if}
 use Rattle.execution_definitions.specs.Sets.{lane_of_set}
 use Rattle.delegation.specs.Runtimes.{RuntimeView, HasDone}
 use Rattle.delegation.specs.Answers.{HasCaughtUp}
@@ -14,12 +12,6 @@ use Rattle.batch_rt.specs.Lanes.{IsIdle}
 use Rattle.batch_rt.specs.Stores.{store_sent, Each, IsCaughtUp}
 use Rattle.batch_rt.proofs.IdleLemmas.{idle_sent, idle_caught_up}
 use Rattle.batch_rt.proofs.ContinueLemmas.{logs_done}
-
--- a call that an open epoch refuses finds none
-pub closed_from : (is_open : Bool) (why : Refusal) (rest : Option Refusal) →
-    first_of (refuse_if is_open why) rest ≡ None → is_open ≡ false
-closed_from true why rest is = absurd cc
-closed_from false why rest is = refl
 
 module _ {C O R : Type 0} where
   -- lanes did the first of what was sent to them, and idle lanes all

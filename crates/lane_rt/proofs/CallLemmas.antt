@@ -1,12 +1,10 @@
 -- What calls of the runtime need of its store.
-use Rattle.std.proofs.Common.{◌≡◌, ℕ, zero, suc, Bool, true, false, Option, Some, None, List, [], ◌∷◌, ◌∙◌, length, refl, sym, subst, arith}
+use Rattle.std.proofs.Common.{◌≡◌, ℕ, zero, suc, Bool, false, Option, Some, None, List, [], ◌∷◌, ◌∙◌, length, refl, sym, subst, arith}
 use Rattle.std.specs.Prelude.{slice_get}
 use Rattle.std.proofs.lemmas.Option.{same_Some}
 use Rattle.std.proofs.lemmas.List.{length-map}
 use Rattle.ss_base.specs.declared.ids.Run.{Run}
 use Rattle.ss_base.specs.declared.ids.SetId.{SetId}
-use Rattle.execution_definitions.specs.declared.refusal.Refusal.{Refusal}
-use Rattle.execution_definitions.specs.Refusals.{first_of, refuse_if}
 use Rattle.execution_definitions.specs.Meanings.{Meaning}
 use Rattle.delegation.specs.Runtimes.{RuntimeView, IsFront, HasDone}
 use Rattle.delegation.specs.Answers.{HasCaughtUp}
@@ -18,12 +16,6 @@ use Rattle.lane_store.specs.declared.store.LaneStore.{LaneStore}
 use Rattle.lane_objects.specs.Outcomes.{sent_runs}
 use Rattle.lane_store.specs.LaneStores.{stores_of, store_sent, AreIdle, IsCaughtUp}
 use Rattle.lane_store.proofs.IdleLemmas.{idle_sent}
-
--- a call that an open epoch refuses finds none
-pub closed_from : (is_open : Bool) (why : Refusal) (rest : Option Refusal) →
-    first_of (refuse_if is_open why) rest ≡ None → is_open ≡ false
-closed_from true why rest is = absurd cc
-closed_from false why rest is = refl
 
 module _ {C R : Type 0} where
   length-sent : (logs : List (List Run)) (lanes : List (Stored C R)) →

@@ -1,5 +1,5 @@
 -- What marks say of a call is what the rule says of the list that they represent.
-use Rattle.std.proofs.Common.{◌≡◌, ℕ, Option, Some, None, List, ⊎_elim, refl, sym, ap, ◌∙◌, arith, rules}
+use Rattle.std.proofs.Common.{◌≡◌, ℕ, Bool, true, false, Option, Some, None, List, ⊎_elim, refl, sym, ap, ◌∙◌, arith, rules}
 use Rattle.std.specs.Prelude.{if◌then◌else◌, is_some}
 use Rattle.std.specs.Option.{option_map}
 use Rattle.std.proofs.lemmas.Grind.{common_steps}
@@ -13,7 +13,7 @@ use Rattle.execution_definitions.specs.Shapes.{Shape, delegate, write}
 use Rattle.execution_definitions.specs.Sets.{makers, serializer_in, set_of, set_under}
 use Rattle.execution_definitions.specs.Epochs.{this_epoch}
 use Rattle.execution_definitions.specs.Held.{last_set, held_set}
-use Rattle.execution_definitions.specs.Refusals.{breaks, unknown_object, first_of, if_reading, private_object}
+use Rattle.execution_definitions.specs.Refusals.{breaks, unknown_object, first_of, refuse_if, if_reading, private_object}
 use Rattle.execution_definitions.proofs.shapes.HeldLemmas.{IsNoneOr, held_or_last}
 use Rattle.partition_check.specs.declared.mark.Mark.{Mark}
 use Rattle.partition_check.specs.Marked.{Marked, mark_at, set_marked, held_in}
@@ -41,6 +41,12 @@ past_first : (first later same : Option Refusal) → (first ≡ None → later �
     first_of first later ≡ first_of first same
 past_first None later same agree = agree refl
 past_first (Some refusal) later same agree = refl
+
+-- a call that an open epoch refuses finds none
+pub closed_from : (is_open : Bool) (why : Refusal) (rest : Option Refusal) →
+    first_of (refuse_if is_open why) rest ≡ None → is_open ≡ false
+closed_from true why rest is = absurd cc
+closed_from false why rest is = refl
 
 module _ (marked : Marked) (calls : List Shape) (r : Represents marked calls) where
   unknown_past : (object : ℕ) → mark_at marked object ≡ None →

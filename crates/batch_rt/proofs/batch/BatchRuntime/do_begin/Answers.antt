@@ -1,6 +1,7 @@
 use Rattle.std.proofs.Common.{refl, sym, ◌∙◌}
 use Rattle.delegation.proofs.runs.FrontLemmas.{fronts_same}
-use Rattle.batch_rt.proofs.CallLemmas.{closed_from, store_done}
+use Rattle.partition_check.proofs.represents.JudgedLemmas.{closed_from}
+use Rattle.batch_rt.proofs.CallLemmas.{store_done}
 use Rattle.batch_rt.proofs.batch.BatchRuntime.do_begin.Goals as goal
 
 pub returns-clause-answered : goal.returns-clause-answered

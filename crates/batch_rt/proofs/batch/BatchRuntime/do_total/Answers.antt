@@ -2,7 +2,8 @@ use Rattle.std.proofs.Common.{refl, sym, ap, ◌∙◌, Some}
 use Rattle.execution_definitions.specs.declared.call.Reply.TheVariants as reply
 use Rattle.delegation.proofs.runs.FrontLemmas.{fronts_same}
 use Rattle.batch_rt.proofs.IdleLemmas.{idle_total}
-use Rattle.batch_rt.proofs.CallLemmas.{closed_from, store_done}
+use Rattle.partition_check.proofs.represents.JudgedLemmas.{closed_from}
+use Rattle.batch_rt.proofs.CallLemmas.{store_done}
 use Rattle.batch_rt.proofs.batch.BatchRuntime.do_total.Goals as goal
 
 pub returns : goal.returns

@@ -4,7 +4,8 @@ use Rattle.delegation.proofs.plains.PlainLemmas.{length-noted}
 use Rattle.delegation.proofs.runs.FrontLemmas.{fronts_same}
 use Rattle.lane_ends.specs.Workers.{home_given}
 use Rattle.lane_store.proofs.IdleLemmas.{idle_total}
-use Rattle.lane_rt.proofs.CallLemmas.{closed_from, store_done}
+use Rattle.partition_check.proofs.represents.JudgedLemmas.{closed_from}
+use Rattle.lane_rt.proofs.CallLemmas.{store_done}
 use Rattle.lane_rt.proofs.PlacedLemmas.{placed_on}
 use Rattle.lane_rt.proofs.lanes.LanesRuntime.do_total.Goals as goal
 
