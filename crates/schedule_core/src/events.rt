@@ -74,7 +74,7 @@ fn is_finished<C: LocalClass>(parts: &Parts<C>) -> bool
     ensures going { result ≡ false →
         IsFinished C.local_meaning (program_of parts.now) (machine_of parts.now) → ⊥ }
 {
-    all_idle(&parts.store.lanes) && (parts.stop.is_some() || parts.left.is_empty())
+    (parts.stop.is_some() || parts.left.is_empty()) && all_idle(&parts.store.lanes)
 }
 
 // The answer to an event that isn't enabled.

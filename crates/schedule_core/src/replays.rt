@@ -9,6 +9,7 @@ ghost use Rattle.schedule_core.specs.Outcomes.{GoesOnTo, IsOutcome};
 
 use crate::events::{event_by_rule, new_parts, take_event};
 use crate::parts::Parts;
+use crate::step::Step;
 use crate::store::Store;
 use class_laws::Class;
 use delegation::{Call, Reply};
@@ -33,7 +34,8 @@ pub struct Outcome<C: Class> {
     pub order: Vec<CallNo>,
 }
 
-// Takes the events of a schedule. Those that aren't enabled are passed over.
+// Takes the events of a schedule. Those that aren't enabled are passed over. Once no event is enabled,
+// none ever is again, and the rest isn't looked at.
 fn take_schedule<C: Class>(parts: &mut Parts<C>, schedule: &[Event]) -> Result<(), OutOfMemory>
     requires { IsKept C.meaning parts.old }
     ensures kept { OnOk result (IsKept C.meaning parts.new) }
@@ -42,7 +44,9 @@ fn take_schedule<C: Class>(parts: &mut Parts<C>, schedule: &[Event]) -> Result<(
         (program_of parts.old) (machine_of parts.old) schedule.now) }
 {
     for e in schedule {
-        take_event(parts, *e)?;
+        if let Step::Finished = take_event(parts, *e)? {
+            return Ok(());
+        }
     }
     Ok(())
 }
