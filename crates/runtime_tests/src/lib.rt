@@ -11,5 +11,7 @@ mod scarce;
 mod tests;
 #[cfg(test)]
 mod texts;
+#[cfg(test)]
+mod turns;
 
 pub use scarce::{Need, Scarce};

@@ -69,8 +69,8 @@ fn why(fault: Fault) -> Answer {
     }
 }
 
-// Makes the call and gives its answer.
-fn answer<D: Delegation<Word32>, R: Threads + Wait + Copy + Send + Sync + 'static>(
+/// Makes the call and gives its answer.
+pub fn answer<D: Delegation<Word32>, R: Threads + Wait + Copy + Send + Sync + 'static>(
     rt: &R,
     alloc: Global,
     d: &mut D,
