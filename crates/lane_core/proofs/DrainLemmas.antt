@@ -23,9 +23,8 @@ waiting (entries ∷ lanes) = length entries + waiting lanes
 
 module _ {C O R : Type 0} where
   -- the greatest cut: all runs that were sent
-  all_runs : List (LaneView C O R) → List ℕ
-  all_runs [] = []
-  all_runs (lane ∷ lanes) = length (runs_sent lane) ∷ all_runs lanes
+  abbrev pub all_runs : List (LaneView C O R) → List ℕ
+  all_runs lanes = map (λ (lane : LaneView C O R). length (runs_sent lane)) lanes
 
   -- the least cut is a cut
   pub least-is_cut : (lanes : List (LaneView C O R)) → IsCut lanes (least_cut lanes)
@@ -34,6 +33,14 @@ module _ {C O R : Type 0} where
       let count = length-append (runs_known lane)
       (map (λ (e : Entry C O). e.run) (entries_in lane.since)) in
       (omega arith, omega arith, least-is_cut lanes)
+
+  -- and so is the greatest
+  pub all-is_cut : (lanes : List (LaneView C O R)) → IsCut lanes (all_runs lanes)
+  all-is_cut [] = tt
+  all-is_cut (lane ∷ lanes) =
+      let count = length-append (runs_known lane)
+      (map (λ (e : Entry C O). e.run) (entries_in lane.since)) in
+      (omega arith, omega arith, all-is_cut lanes)
 
 module _ {C O R : Type 0} (m : Meaning C O R) where
   -- what is at the front of the least lane in which something waits takes effect first
@@ -75,7 +82,7 @@ module _ {C O R : Type 0} (m : Meaning C O R) where
   -- where nothing waits in the lanes of a cut, it is the greatest
   nothing_waits : (lanes : List (LaneView C O R)) (cut : List ℕ) → IsCut lanes cut →
       waiting (map (waiting_in m) (lanes_at m lanes cut)) ≡ 0 → cut ≡ all_runs lanes
-  unfolding waiting all_runs
+  unfolding waiting
   nothing_waits [] [] is none = refl
   nothing_waits [] (runs ∷ cut) is none = absurd is
   nothing_waits (lane ∷ lanes) [] is none = absurd is

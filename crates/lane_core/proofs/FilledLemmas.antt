@@ -1,5 +1,5 @@
 -- All values, where those that aren't at home are given by a function.
-use Rattle.std.proofs.Common.{◌≡◌, ℕ, zero, suc, Option, Some, None, List, [], ◌∷◌, ◌++◌, true, refl, ap, ◌∙◌, arith}
+use Rattle.std.proofs.Common.{◌≡◌, ℕ, zero, suc, Option, Some, None, List, [], ◌∷◌, ◌++◌, map, true, refl, ap, ◌∙◌, arith}
 use Rattle.std.specs.Prelude.{slice_get, slice_set, is_some, option_to_list}
 use Rattle.lane_core.specs.Cores.{filled}
 
@@ -9,7 +9,7 @@ module _ {C : Type 0} where
   Covers away values = (n : ℕ) → slice_get values n ≡ Some None → is_some (away n) ≡ true
 
   -- functions that give the same
-  filled-same : (away after : ℕ → Option C) (values : List (Option C)) →
+  pub filled-same : (away after : ℕ → Option C) (values : List (Option C)) →
       ((n : ℕ) → after n ≡ away n) → filled after values ≡ filled away values
   filled-same away after [] same = refl
   filled-same away after (Some value ∷ rest) same =
@@ -76,3 +76,26 @@ module _ {C : Type 0} where
       (λ n differs. others (suc n) (λ e. differs (omega (arith, e)))) in
       rw (same, tail)
       (set_behind (away 0) i value (filled (λ n. away (suc n)) rest) (covers 0 refl))
+
+  -- a value is at home, or given
+  abbrev pub IsGiven : Option C → Option C → C → Type 0
+  IsGiven (Some here) away value = here ≡ value
+  IsGiven None away value = away ≡ Some value
+
+  filled-first : (away : ℕ → Option C) (here : Option C) (value : C) (values : List (Option C))
+      (all : List C) → IsGiven here (away 0) value → filled (λ n. away (suc n)) values ≡ all →
+      filled away (here ∷ values) ≡ value ∷ all
+  filled-first away (Some here) value values all is rest = rw (is, rest) refl
+  filled-first away None value values all is rest = rw (is, rest) refl
+
+  -- the values of objects, each of which is at home or given
+  pub filled-all : {A : Type 0} (home : A → Option C) (value : A → C) (away : ℕ → Option C)
+      (objects : List A) →
+      ((n : ℕ) (object : A) → slice_get objects n ≡ Some object →
+      IsGiven (home object) (away n) (value object)) →
+      filled away (map home objects) ≡ map value objects
+  filled-all home value away [] given = refl
+  filled-all home value away (object ∷ objects) given =
+      filled-first away (home object) (value object) (map home objects) (map value objects)
+      (given 0 object refl)
+      (filled-all home value (λ n. away (suc n)) objects (λ n. given (suc n)))

@@ -14,7 +14,7 @@ use Rattle.lane_core.proofs.StepLemmas.{Steps, steps_on, has_the_same, entries_l
 
 module _ {C O R : Type 0} where
   -- how many runs were sent to a lane: those that are known to be taken, and those of the messages
-  runs_sent-count : (lane : LaneView C O R) →
+  pub runs_sent-count : (lane : LaneView C O R) →
       length (runs_sent lane) ≡ length (runs_known lane) + length (entries_in lane.since)
   runs_sent-count lane =
       length-append (runs_known lane) (map (λ (e : Entry C O). e.run) (entries_in lane.since))

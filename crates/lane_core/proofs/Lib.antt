@@ -4,4 +4,5 @@ pub mod FilledLemmas
 pub mod LanesLemmas
 pub mod EventLemmas
 pub mod DrainLemmas
+pub mod LogicalLemmas
 pub mod worked

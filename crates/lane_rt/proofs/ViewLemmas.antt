@@ -1,11 +1,12 @@
--- Running lanes between calls have what the laws on cuts ask for.
+-- Running lanes between calls have what the laws on cuts ask for, and show their logical state.
 use Rattle.std.proofs.Common.{◌≡◌, ℕ, zero, suc, Bool, true, false, Option, Some, None, List, [], ◌∷◌, map, length, refl, sym, ap, ◌∙◌, arith}
-use Rattle.std.specs.Prelude.{is_some, slice_get, option_and_then}
-use Rattle.std.specs.Option.{option_map}
+use Rattle.std.specs.Prelude.{is_some, fold, slice_get, option_and_then}
+use Rattle.std.specs.Option.{option_map, unwrap_or}
 use Rattle.std.proofs.lemmas.Option.{same_Some}
 use Rattle.ss_base.specs.declared.ids.Run.{Run}
 use Rattle.ss_base.specs.declared.ids.SetId.{SetId}
 use Rattle.execution_definitions.specs.Meanings.{Meaning}
+use Rattle.execution_definitions.specs.Sequential.{State}
 use Rattle.execution_definitions.specs.Sets.{lane_of_set}
 use Rattle.partition_check.specs.Marked.{Marked}
 use Rattle.jobs.specs.declared.start.RunningJob.{RunningJob}
@@ -13,17 +14,21 @@ use Rattle.set_queue.specs.declared.ends.Sender.{Sender}
 use Rattle.delegates.specs.Stores.{Stored, value_of}
 use Rattle.delegates.specs.declared.worker.DelegateJob.{DelegateJob}
 use Rattle.lane_core.specs.Views.{LaneView, LanesView, lane_of_object}
+use Rattle.lane_core.specs.Cores.{logical_state}
 use Rattle.lane_core.specs.Kept.{has_object, all_find, is_in_store, IsKept}
+use Rattle.lane_core.specs.Laws.{CutsAreLogical}
+use Rattle.lane_core.proofs.FilledLemmas.{IsGiven, filled-all}
+use Rattle.lane_core.proofs.LogicalLemmas.{come, value_come, logical_is}
 use Rattle.lane_ends.specs.declared.lane_end.LaneEnd.{LaneEnd}
 use Rattle.lane_ends.specs.declared.lane_end.Taker.{Taker}
 use Rattle.lane_ends.specs.LaneEnds.{each_finds, since_by, since_of, base_by, base_of, comes_to, IsTakenBy, IsWhole}
 use Rattle.lane_ends.specs.Workers.{home_given}
 use Rattle.lane_objects.specs.declared.object.Object.{Object}
 use Rattle.lane_objects.specs.declared.object.Object.TheVariants.{Here, Shared, Away}
-use Rattle.lane_objects.specs.Objects.{value_at_home, found_at}
-use Rattle.lane_objects.specs.Outcomes.{value_in}
+use Rattle.lane_objects.specs.Objects.{value_at_home, found_in, found_at}
+use Rattle.lane_objects.specs.Outcomes.{value_in, value_after, with_lane}
 use Rattle.lane_store.specs.declared.store.LaneStore.{LaneStore}
-use Rattle.lane_store.specs.LaneStores.{stores_of}
+use Rattle.lane_store.specs.LaneStores.{stores_of, store_state}
 use Rattle.lane_store.proofs.StoreLemmas.{store_here}
 use Rattle.lane_rt.specs.Kept.{HoldsTogether, IsPlaced}
 use Rattle.lane_rt.specs.Moves.{is_out}
@@ -40,6 +45,17 @@ out_value (Here value ∷ objects) zero place found = absurd cc
 out_value (Shared shared ∷ objects) zero place found = absurd cc
 out_value (Away lane number was ∷ objects) zero place found = refl
 out_value (object ∷ objects) (suc n) place found = out_value objects n place found
+
+some_unwrap : {A : Type 0} (found : Option A) (other : A) → is_some found ≡ true →
+    found ≡ Some (unwrap_or found other)
+some_unwrap None other some = absurd cc
+some_unwrap (Some a) other some = refl
+
+same_state : {C R : Type 0} (v w : List C) (t u : R) → v ≡ w → t ≡ u →
+    (let left : State C R = record { values = v; total = t } in
+    let right : State C R = record { values = w; total = u } in
+    left ≡ right)
+same_state v w t u values total = rw (values, total) refl
 
 abbrev End : Type 0 → Type 0 → Type 0 → Type 0 → Type 0
 End C G O R = LaneEnd C (RunningJob (DelegateJob C G O R)) O R
@@ -136,6 +152,15 @@ module _ {C G O R : Type 0} (m : Meaning C O R) where
       comes_with m (base_of m home_given end) (since_of home_given end)
       (base_whole end.sender end.taker whole) (base_served end.sender end.taker whole) object
 
+  -- lanes come to the same stores, however they are seen
+  lanes_come : (logs : List (List Run)) (ends : List (End C G O R)) →
+      map (come m) (lanes_of m logs ends) ≡ stores_of m home_given ends
+  lanes_come [] [] = refl
+  lanes_come (log ∷ logs) [] = refl
+  lanes_come [] (end ∷ ends) = ap (λ rest. comes_to m home_given end ∷ rest) (lanes_come [] ends)
+  lanes_come (log ∷ logs) (end ∷ ends) =
+      ap (λ rest. comes_to m home_given end ∷ rest) (lanes_come logs ends)
+
   -- ---- all of it
 
   module _ (store : LaneStore C (RunningJob (DelegateJob C G O R)) O R) (marks : Marked)
@@ -195,3 +220,31 @@ module _ {C G O R : Type 0} (m : Meaning C O R) where
               lane_is object number object found,
             );
       }
+
+      -- ---- and the logical state is what every runtime shows
+
+      abbrev stores : List (Stored C R)
+      stores = stores_of m home_given store.ends.items
+
+      value_given : (n : ℕ) (object : Object C) → slice_get store.objects.items n ≡ Some object →
+          IsGiven (value_at_home object) (value_come m view n) (value_after stores object)
+      value_given n (Here value) at = refl
+      value_given n (Shared shared) at = refl
+      value_given n (Away lane number was) at =
+          let found : found_at store.objects.items n ≡ Some (lane, number.0) = ap found_in at in
+          ap (λ l. option_and_then (λ (s : Stored C R). value_of s n)
+          (option_and_then (slice_get (map (come m) view.lanes)) l)) (lane_is n lane number.0 found)
+          ∙ ap (λ all. value_in all lane n) (lanes_come store.logs.items store.ends.items)
+          ∙ some_unwrap (value_in stores lane n) was.value
+          (kept.whole.apart.there n lane number.0 found)
+          ∙ ap (λ k. Some (unwrap_or (value_in stores lane k) was.value))
+          (sym (kept.whole.apart.number n lane number.0 found))
+
+      pub shown : CutsAreLogical m view →
+          store_state m home_given store ≡ logical_state m view
+      shown logical =
+          sym (logical_is m view logical
+          ∙ same_state _ _ _ _
+          (filled-all value_at_home (value_after stores) (value_come m view) store.objects.items
+          value_given)
+          (ap (fold (with_lane m) store.total) (lanes_come store.logs.items store.ends.items)))

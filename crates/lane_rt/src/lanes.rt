@@ -48,7 +48,9 @@ impl<C: Class + 'static, G: Gate + 'static> Model for Lanes<C, G> {
 }
 
 impl<C: Class + 'static, G: Gate + 'static> Lanes<C, G> {
+    ghost use Rattle.lane_core.specs.Cores.{logical_state};
     ghost use Rattle.lane_core.specs.Kept.{IsKept};
+    ghost use Rattle.lane_core.specs.Laws.{CutsAreLogical};
 
     /// A runtime before its first call, with `n` delegates, each behind a queue with room for
     /// `capacity` messages. They pass `gate` before each run.
@@ -73,10 +75,14 @@ impl<C: Class + 'static, G: Gate + 'static> Lanes<C, G> {
         })
     }
 
-    // What the laws on cuts ask of running lanes holds between calls, as long as memory was found. A
-    // look at any field has the invariant at hand.
+    // What the laws on cuts ask of running lanes holds between calls, as long as memory was found, and
+    // the state that every runtime shows is then the logical one. A look at any field has the invariant
+    // at hand.
     pub(crate) fn hold_together(&self)
-        ensures { self.now.running.has_failed ≡ false → IsKept self.now.running }
+        ensures kept { self.now.running.has_failed ≡ false → IsKept self.now.running }
+        ensures shown { self.now.running.has_failed ≡ false →
+            CutsAreLogical C.meaning self.now.running →
+            self.now.runtime.state ≡ logical_state C.meaning self.now.running }
     {
         let _has_failed = self.has_failed;
     }

@@ -2,6 +2,7 @@
 //!
 //! There is nothing to run: each law is a contract.
 ghost use Rattle.std.specs.Prelude.{◌≡◌, false};
+ghost use Rattle.lane_core.specs.Cores.{logical_state};
 ghost use Rattle.lane_core.specs.Cuts.{IsCut, least_cut};
 ghost use Rattle.lane_core.specs.Laws.{CutsGoOn, CutsDrainAlike, CutsAreLogical};
 
@@ -20,12 +21,14 @@ pub fn cut_event<C: Class + 'static, G: Gate + 'static>(r: &Lanes<C, G>)
 }
 
 /// Once what waits is drained, the cores at all cuts of the running lanes are the same. The least cut
-/// is one of them, and that to which its core drains is the logical state. This is so as long as
-/// memory was found.
+/// is one of them, and that to which its core drains is the logical state, which is what every runtime
+/// shows of itself. This is so as long as memory was found.
 pub fn cut_drain<C: Class + 'static, G: Gate + 'static>(r: &Lanes<C, G>)
     ensures same { r.now.running.has_failed ≡ false → CutsDrainAlike C.meaning r.now.running }
     ensures least { IsCut r.now.running.lanes (least_cut r.now.running.lanes) }
     ensures logical { r.now.running.has_failed ≡ false → CutsAreLogical C.meaning r.now.running }
+    ensures shown { r.now.running.has_failed ≡ false →
+        r.now.runtime.state ≡ logical_state C.meaning r.now.running }
 {
     r.hold_together();
     lane_core::cut_drain::<C>();

@@ -1,9 +1,13 @@
-use Rattle.lane_rt.proofs.ViewLemmas.{running_kept}
+use Rattle.lane_rt.proofs.ViewLemmas.{running_kept, shown}
 use Rattle.lane_rt.proofs.lanes.Lanes.hold_together.Goals as goal
 
 pub returns : goal.returns
 returns g c =
     let lanes = c.self.inside in
     rw (← c.self.view_is)
-    (λ usable. running_kept g.C.Class.meaning lanes.store lanes.marks lanes.delegates
-    lanes.has_failed (c.self.invariant.kept usable))
+    (record {
+      kept = λ usable. running_kept g.C.Class.meaning lanes.store lanes.marks lanes.delegates
+          lanes.has_failed (c.self.invariant.kept usable);
+      shown = λ usable. shown g.C.Class.meaning lanes.store lanes.marks lanes.delegates
+          lanes.has_failed (c.self.invariant.kept usable);
+    })
