@@ -112,7 +112,7 @@ module _ {C O R : Type 0} (m : Meaning C O R) where
   one_more-is_cut (lane ∷ lanes) (runs ∷ cut) (suc number) e is front =
       (is.0, is.1, one_more-is_cut lanes cut number e is.2 front)
 
-  count_at_cut : (lanes : List (LaneView C O R)) (cut : List ℕ) → IsCut lanes cut →
+  pub count_at_cut : (lanes : List (LaneView C O R)) (cut : List ℕ) → IsCut lanes cut →
       length (map (waiting_in m) (lanes_at m lanes cut)) ≡ length lanes
   count_at_cut [] [] is = refl
   count_at_cut [] (runs ∷ cut) is = absurd is

@@ -16,7 +16,7 @@ use Rattle.lane_core.proofs.FilledLemmas.{Covers, get-filled, filled-put}
 use Rattle.lane_core.proofs.StepLemmas.{are_apart}
 use Rattle.lane_core.proofs.LanesLemmas.{AreServed, IsAt, at_cut, keeps_objects, GoesOn, goes_on, waiting_in, front-is, waiting-put, total-put}
 
-get-set : {A : Type 0} (xs : List A) (i : ℕ) (x y : A) → slice_get xs i ≡ Some x →
+pub get-set : {A : Type 0} (xs : List A) (i : ℕ) (x y : A) → slice_get xs i ≡ Some x →
     slice_get (slice_set xs i y) i ≡ Some y
 get-set [] i x y here = absurd cc
 get-set (first ∷ xs) zero x y here = refl
@@ -58,7 +58,7 @@ module _ {C O R : Type 0} (m : Meaning C O R) where
             (λ same. are_apart lane number is (sym same)))
 
   -- a core of these parts
-  same_core : (v w : List C) (t u : R) (k l : List (List (Entry C O))) → v ≡ w → t ≡ u → k ≡ l →
+  pub same_core : (v w : List C) (t u : R) (k l : List (List (Entry C O))) → v ≡ w → t ≡ u → k ≡ l →
       (let left : Core C O R = record { state = record { values = v; total = t }; lanes = k } in
       let right : Core C O R = record { state = record { values = w; total = u }; lanes = l } in
       left ≡ right)

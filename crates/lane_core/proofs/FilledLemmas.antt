@@ -1,6 +1,7 @@
 -- All values, where those that aren't at home are given by a function.
-use Rattle.std.proofs.Common.{◌≡◌, ℕ, zero, suc, Option, Some, None, List, [], ◌∷◌, ◌++◌, map, true, refl, ap, ◌∙◌, arith}
+use Rattle.std.proofs.Common.{◌≡◌, ℕ, zero, suc, Option, Some, None, List, [], ◌∷◌, ◌++◌, length, map, true, refl, ap, ◌∙◌, arith}
 use Rattle.std.specs.Prelude.{slice_get, slice_set, is_some, option_to_list}
+use Rattle.std.proofs.lemmas.Option.{same_Some}
 use Rattle.lane_core.specs.Cores.{filled}
 
 module _ {C : Type 0} where
@@ -99,3 +100,43 @@ module _ {C : Type 0} where
       filled-first away (home object) (value object) (map home objects) (map value objects)
       (given 0 object refl)
       (filled-all home value (λ n. away (suc n)) objects (λ n. given (suc n)))
+
+  -- how many values there are
+  pub length-filled : (away : ℕ → Option C) (values : List (Option C)) → Covers away values →
+      length (filled away values) ≡ length values
+  length-filled away [] covers = refl
+  length-filled away (Some value ∷ rest) covers =
+      ap suc (length-filled (λ n. away (suc n)) rest (λ n. covers (suc n)))
+  length-filled away (None ∷ rest) covers =
+      one_more (away 0) (filled (λ n. away (suc n)) rest) (covers 0 refl)
+      ∙ ap suc (length-filled (λ n. away (suc n)) rest (λ n. covers (suc n)))
+    where
+      one_more : (o : Option C) (xs : List C) → is_some o ≡ true →
+          length (option_to_list o ++ xs) ≡ suc (length xs)
+      one_more None xs some = absurd cc
+      one_more (Some value) xs some = refl
+
+  -- the value of an object at home
+  pub get-filled-home : (away : ℕ → Option C) (values : List (Option C)) (i : ℕ) (value : C) →
+      Covers away values → slice_get values i ≡ Some (Some value) →
+      slice_get (filled away values) i ≡ Some value
+  get-filled-home away [] i value covers here = absurd cc
+  get-filled-home away (Some first ∷ rest) zero value covers here = same_Some (Some first) (Some value) here
+  get-filled-home away (Some first ∷ rest) (suc i) value covers here =
+      get-filled-home (λ n. away (suc n)) rest i value (λ n. covers (suc n)) here
+  get-filled-home away (None ∷ rest) zero value covers here = absurd cc
+  get-filled-home away (None ∷ rest) (suc i) value covers here =
+      get_behind (away 0) i (filled (λ n. away (suc n)) rest) (covers 0 refl)
+      ∙ get-filled-home (λ n. away (suc n)) rest i value (λ n. covers (suc n)) here
+
+  -- there are no others
+  pub get-filled-none : (away : ℕ → Option C) (values : List (Option C)) (i : ℕ) →
+      Covers away values → slice_get values i ≡ None → slice_get (filled away values) i ≡ None
+  get-filled-none away [] i covers none = refl
+  get-filled-none away (Some first ∷ rest) zero covers none = absurd cc
+  get-filled-none away (Some first ∷ rest) (suc i) covers none =
+      get-filled-none (λ n. away (suc n)) rest i (λ n. covers (suc n)) none
+  get-filled-none away (None ∷ rest) zero covers none = absurd cc
+  get-filled-none away (None ∷ rest) (suc i) covers none =
+      get_behind (away 0) i (filled (λ n. away (suc n)) rest) (covers 0 refl)
+      ∙ get-filled-none (λ n. away (suc n)) rest i (λ n. covers (suc n)) none

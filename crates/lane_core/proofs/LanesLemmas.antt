@@ -81,6 +81,37 @@ module _ {C O R : Type 0} (m : Meaning C O R) where
       let rest = at_cut lanes cut is.2 number lane there in
       record { runs = rest.runs; within = rest.within; here = rest.here }
 
+  -- and the other way round
+  pub record IsOf (lanes : List (LaneView C O R)) (number : ℕ) (at : LaneAtCut C O R) : Type 0 where
+    pub lane : LaneView C O R
+    pub there : slice_get lanes number ≡ Some lane
+    pub runs : ℕ
+    pub within : IsWithin lane runs
+    pub is : at ≡ lane_at m lane runs
+
+  pub of_cut : (lanes : List (LaneView C O R)) (cut : List ℕ) → IsCut lanes cut → (number : ℕ)
+      (at : LaneAtCut C O R) → slice_get (lanes_at m lanes cut) number ≡ Some at →
+      IsOf lanes number at
+  of_cut [] [] is number at here = absurd cc
+  of_cut [] (runs ∷ cut) is number at here = absurd is
+  of_cut (first ∷ lanes) [] is number at here = absurd is
+  of_cut (first ∷ lanes) (runs ∷ cut) is zero at here = record {
+    lane = first;
+    there = refl;
+    runs = runs;
+    within = record { least = is.0; most = is.1 };
+    is = sym (same_Some (lane_at m first runs) at here);
+  }
+  of_cut (first ∷ lanes) (runs ∷ cut) is (suc number) at here =
+      let rest = of_cut lanes cut is.2 number at here in
+      record {
+        lane = rest.lane;
+        there = rest.there;
+        runs = rest.runs;
+        within = rest.within;
+        is = rest.is;
+      }
+
   -- one lane takes one run more
   pub record GoesOn (lanes : List (LaneView C O R)) (cut : List ℕ) (number : ℕ) : Type 0 where
     pub lane : LaneView C O R
@@ -161,12 +192,12 @@ module _ {C O R : Type 0} (m : Meaning C O R) where
       ap (λ rest. waiting_in lane ∷ rest) (waiting-put lanes number before after e here is)
 
   module _ (laws : ReducibleLaws m.unit m.join) where
-    swap : (a b c : R) → m.join (m.join a b) c ≡ m.join (m.join a c) b
+    pub swap : (a b c : R) → m.join (m.join a b) c ≡ m.join (m.join a c) b
     swap a b c = sym (laws.associative a b c) ∙ ap (λ x. m.join a x) (laws.commutative b c)
         ∙ laws.associative a c b
 
     -- a contribution comes before those of lanes, or after
-    total_more : (total more : R) (lanes : List (LaneAtCut C O R)) →
+    pub total_more : (total more : R) (lanes : List (LaneAtCut C O R)) →
         fold (with_total_of m) (m.join total more) lanes
         ≡ m.join (fold (with_total_of m) total lanes) more
     total_more total more [] = refl

@@ -5,4 +5,9 @@ pub mod LanesLemmas
 pub mod EventLemmas
 pub mod DrainLemmas
 pub mod LogicalLemmas
+pub mod CoreLemmas
+pub mod ComeLemmas
+pub mod OnLemmas
+pub mod ViewLemmas
+pub mod CallLemmas
 pub mod worked

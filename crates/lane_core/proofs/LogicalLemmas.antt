@@ -14,22 +14,19 @@ use Rattle.lane_core.specs.Views.{LaneView, LanesView, entries_in, runs_known, r
 use Rattle.lane_core.specs.Cuts.{LaneAtCut, lane_after, lane_at, lanes_at}
 use Rattle.lane_core.specs.Cores.{filled, carried, value_in, value_in_lane, value_away, with_total_of, core, logical_state}
 use Rattle.lane_core.specs.Laws.{CutsAreLogical}
+use Rattle.lane_core.proofs.StepLemmas.{same_either}
 use Rattle.lane_core.proofs.FilledLemmas.{filled-same}
 use Rattle.lane_core.proofs.LanesLemmas.{runs_sent-count, waiting_in}
 use Rattle.lane_core.proofs.DrainLemmas.{all_runs, all-is_cut}
 
-or_none : {A : Type 0} (found : Option A) → option_or found None ≡ found
+pub or_none : {A : Type 0} (found : Option A) → option_or found None ≡ found
 or_none None = refl
 or_none (Some a) = refl
-
-same_either : {A : Type 0} (b : Bool) (a : A) → (if b then a else a) ≡ a
-same_either true a = refl
-same_either false a = refl
 
 module _ {C O R : Type 0} (m : Meaning C O R) where
   -- ---- a lane that has taken all that was sent
 
-  record HasTakenAll (s : Stored C R) (messages : List (Message C O R)) (lane : LaneAtCut C O R)
+  pub record HasTakenAll (s : Stored C R) (messages : List (Message C O R)) (lane : LaneAtCut C O R)
       : Type 0 where
     pub store : lane.store ≡ folded m s messages
     pub none : waiting_in m lane ≡ []
@@ -64,7 +61,7 @@ module _ {C O R : Type 0} (m : Meaning C O R) where
       let all = all_taken runs (taken m s x) rest (omega (arith, is)) in
       record { store = all.store; none = all.none; bare = all.bare }
 
-  lane_done : (lane : LaneView C O R) →
+  pub lane_done : (lane : LaneView C O R) →
       HasTakenAll lane.base lane.since (lane_at m lane (length (runs_sent lane)))
   lane_done lane =
       let count = runs_sent-count lane in

@@ -2,15 +2,15 @@
 --
 -- It takes the first entry that waits: the object's value is stepped, the contribution is joined,
 -- and all other objects are as they were.
-use Rattle.std.proofs.Common.{◌≡◌, ℕ, zero, suc, ◌+◌, ◌<◌, ◌≤◌, Bool, true, false, Option, Some, None, List, [], ◌∷◌, length, refl, sym, ap, ◌∙◌, subst, arith, rules}
-use Rattle.std.specs.Prelude.{◌==◌, ◌&&◌, ◌||◌, not, is_some}
+use Rattle.std.proofs.Common.{◌≡◌, ℕ, zero, suc, ◌+◌, ◌<◌, ◌≤◌, Bool, true, false, Option, Some, None, List, [], ◌∷◌, ◌++◌, length, map, append_assoc, append-nil, refl, sym, ap, ◌∙◌, subst, arith, rules}
+use Rattle.std.specs.Prelude.{◌==◌, ◌&&◌, ◌||◌, not, if◌then◌else◌, is_some}
 use Rattle.std.specs.Option.{option_or}
 use Rattle.std.proofs.lemmas.Bool.{eqb-true}
 use Rattle.execution_definitions.specs.Meanings.{Meaning}
 use Rattle.interleavings.specs.Machines.{Entry}
 use Rattle.set_queue.specs.declared.message.Message.{Message}
 use Rattle.set_queue.specs.declared.message.Message.TheVariants as message
-use Rattle.delegates.specs.Stores.{Stored, value_of, holding, entry, stepped, ran, after_message, taken}
+use Rattle.delegates.specs.Stores.{Stored, value_of, holding, entry, stepped, ran, after_message, taken, folded}
 use Rattle.lane_core.specs.Views.{entries_in}
 use Rattle.lane_core.specs.Cuts.{LaneAtCut, lane_after}
 use Rattle.lane_core.specs.Cores.{carried, value_in}
@@ -19,11 +19,15 @@ use Rattle.lane_core.proofs.StoreLemmas.{holding_here, holding_other, stepped_he
 
 -- ---- small words
 
-some_value : {A : Type 0} (o : Option A) → is_some o ≡ true → (a : A) × (o ≡ Some a)
+pub same_either : {A : Type 0} (b : Bool) (a : A) → (if b then a else a) ≡ a
+same_either true a = refl
+same_either false a = refl
+
+pub some_value : {A : Type 0} (o : Option A) → is_some o ≡ true → (a : A) × (o ≡ Some a)
 some_value None some = absurd cc
 some_value (Some a) some = (a, refl)
 
-no_value : {A : Type 0} (o : Option A) → not (is_some o) ≡ true → o ≡ None
+pub no_value : {A : Type 0} (o : Option A) → not (is_some o) ≡ true → o ≡ None
 no_value None none = refl
 no_value (Some a) none = absurd cc
 
@@ -310,3 +314,99 @@ module _ {C O R : Type 0} (m : Meaning C O R) where
       let x = message.Run call epoch set object op reading in
       let left = entries_left runs (taken m s x) rest (omega (arith, room)) in
       omega (arith, left)
+
+  -- ---- a store that took messages
+
+  -- what ran is logged, and the messages behind find their objects
+  pub record HasRun (s after : Stored C R) (done left : List (Message C O R)) : Type 0 where
+    pub runs : after.runs ≡ s.runs ++ map (λ (e : Entry C O). e.run) (entries_in done)
+    pub whole : after.is_broken ≡ false
+    pub found : all_find (is_in_store after) left ≡ true
+
+  one_ran : (s first after : Stored C R) (e : Entry C O) (done left : List (Message C O R)) →
+      first.runs ≡ s.runs ++ e.run ∷ [] → HasRun first after done left →
+      after.runs ≡ s.runs ++ e.run ∷ map (λ (e : Entry C O). e.run) (entries_in done)
+  one_ran s first after e done left one rest =
+      let runs = map (λ (e : Entry C O). e.run) (entries_in done) in
+      rest.runs ∙ ap (λ log. log ++ runs) one ∙ append_assoc s.runs (e.run ∷ []) runs
+
+  pub has_run : (s : Stored C R) (done left : List (Message C O R)) → s.is_broken ≡ false →
+      all_find (is_in_store s) (done ++ left) ≡ true → HasRun s (folded m s done) done left
+  has_run s [] left whole found =
+      record { runs = sym (append-nil s.runs); whole = whole; found = found }
+  has_run s (message.Stop ∷ done) left whole found =
+      let stays : taken m s message.Stop ≡ s = taken-whole m s message.Stop whole in
+      subst (λ (t : Stored C R). HasRun s (folded m t done) (message.Stop ∷ done) left) (sym stays)
+      (let rest = has_run s done left whole found in
+      record { runs = rest.runs; whole = rest.whole; found = rest.found })
+  has_run s (message.Carry call epoch set object value op reading ∷ done) left whole found =
+      let x = message.Carry call epoch set object value op reading in
+      let e = entry call epoch set object op reading in
+      let parts = both_true (not (is_in_store s object.0))
+      (all_find (with_number (is_in_store s) object.0) (done ++ left)) found in
+      let takes = carry_taken s e x value whole refl in
+      let rest = has_run (taken m s x) done left (stays_whole m s x whole)
+      (all_find-same (with_number (is_in_store s) object.0) (is_in_store (taken m s x))
+      (carry_has s e x value takes) (done ++ left) parts.1) in
+      record {
+        runs = one_ran s (taken m s x) (folded m (taken m s x) done) e done left
+            (ap (λ (t : Stored C R). t.runs) takes) rest;
+        whole = rest.whole;
+        found = rest.found;
+      }
+  has_run s (message.Run call epoch set object op reading ∷ done) left whole found =
+      let x = message.Run call epoch set object op reading in
+      let e = entry call epoch set object op reading in
+      let parts = both_true (is_in_store s object.0)
+      (all_find (is_in_store s) (done ++ left)) found in
+      let has = some_value (value_of s object.0) parts.0 in
+      let takes = run_taken s e x has.0 whole refl has.1 in
+      let rest = has_run (taken m s x) done left (stays_whole m s x whole)
+      (all_find-same (is_in_store s) (is_in_store (taken m s x))
+      (run_has s e x has.0 takes has.1) (done ++ left) parts.1) in
+      record {
+        runs = one_ran s (taken m s x) (folded m (taken m s x) done) e done left
+            (ap (λ (t : Stored C R). t.runs) takes) rest;
+        whole = rest.whole;
+        found = rest.found;
+      }
+
+  -- two lanes at a cut differ at most in stops
+  pub record AreAlike (a b : LaneAtCut C O R) : Type 0 where
+    pub store : b.store ≡ a.store
+    pub waiting : entries_in b.waiting ≡ entries_in a.waiting
+    pub carried : (n : ℕ) → carried n b.waiting ≡ carried n a.waiting
+
+  stop_skipped : (runs : ℕ) (s : Stored C R) (rest : List (Message C O R)) →
+      AreAlike (lane_after m runs s (message.Stop ∷ rest)) (lane_after m runs s rest)
+  stop_skipped zero s rest = record { store = refl; waiting = refl; carried = λ n. refl }
+  stop_skipped (suc runs) s rest = record { store = refl; waiting = refl; carried = λ n. refl }
+
+  -- a lane whose store took the first messages has come as far as the one before
+  pub goes_on_after : (all runs : ℕ) (s : Stored C R) (done left : List (Message C O R)) →
+      all ≡ length (entries_in done) + runs →
+      AreAlike (lane_after m all s (done ++ left)) (lane_after m runs (folded m s done) left)
+  goes_on_after all runs s [] left is =
+      subst (λ k. AreAlike (lane_after m k s left) (lane_after m runs s left))
+      (omega (arith, is)) (record { store = refl; waiting = refl; carried = λ n. refl })
+  goes_on_after all runs s (message.Stop ∷ done) left is =
+      let skipped = stop_skipped all s (done ++ left) in
+      let rest = subst (λ (t : Stored C R). AreAlike (lane_after m all s (done ++ left))
+      (lane_after m runs (folded m t done) left)) (sym (same_either s.is_broken s))
+      (goes_on_after all runs s done left is) in
+      record {
+        store = rest.store ∙ skipped.store;
+        waiting = rest.waiting ∙ skipped.waiting;
+        carried = λ n. rest.carried n ∙ skipped.carried n;
+      }
+  goes_on_after zero runs s (message.Carry call epoch set object value op reading ∷ done) left is =
+      absurd (omega (arith, is))
+  goes_on_after zero runs s (message.Run call epoch set object op reading ∷ done) left is =
+      absurd (omega (arith, is))
+  goes_on_after (suc all) runs s (message.Carry call epoch set object value op reading ∷ done) left
+      is =
+      let x = message.Carry call epoch set object value op reading in
+      goes_on_after all runs (taken m s x) done left (omega (arith, is))
+  goes_on_after (suc all) runs s (message.Run call epoch set object op reading ∷ done) left is =
+      let x = message.Run call epoch set object op reading in
+      goes_on_after all runs (taken m s x) done left (omega (arith, is))

@@ -3,3 +3,4 @@ pub mod Cuts
 pub mod Cores
 pub mod Kept
 pub mod Laws
+pub mod Events
