@@ -1,5 +1,5 @@
 -- What does a lane come to, step by step?
-use Rattle.std.proofs.Common.{◌≡◌, ◌<◌, ℕ, Bool, true, false, ◌&&◌, Option, Some, None, List, [], ◌∷◌, ◌++◌, length, drop, refl, sym, ap, ◌∙◌, subst, append_assoc, append-nil, arith}
+use Rattle.std.proofs.Common.{◌≡◌, ◌<◌, Bool, true, false, ◌&&◌, Some, None, List, [], ◌∷◌, ◌++◌, length, drop, refl, sym, ap, ◌∙◌, subst, append_assoc, append-nil, arith}
 use Rattle.std.specs.Prelude.{if◌then◌else◌, Result, Ok, Err, IfOk}
 use Rattle.std.proofs.Math.Seq.{drop-append_seam}
 use Rattle.std.proofs.lemmas.List.{append_cancel_left}
@@ -17,7 +17,7 @@ use Rattle.delegates.proofs.WorkLemmas.{returned_as_it_was}
 use Rattle.delegates.specs.declared.store.Store.{Store}
 use Rattle.lane_ends.specs.declared.lane_end.Taker.{Taker}
 use Rattle.lane_ends.specs.declared.lane_end.LaneEnd.{LaneEnd}
-use Rattle.lane_ends.specs.LaneEnds.{finds, sent_since, each_finds, comes_from, IsTakenFrom, HasGoneOn, HasTakenIn, taker_home, since_by, base_by, comes_to, IsTakenBy, IsWhole, GoesOn, TakesIn, HasCome}
+use Rattle.lane_ends.specs.LaneEnds.{finds, sent_since, each_finds, comes_from, IsTakenFrom, ComesOn, ComesToSame, HasGoneOn, HasTakenIn, taker_home, since_by, since_of, base_by, base_of, comes_to, IsTakenBy, IsWhole, GoesOn, TakesIn, HasCome}
 
 both_true : (a b : Bool) → (a && b) ≡ true → (a ≡ true) × (b ≡ true)
 both_true true b both = (refl, both)
@@ -95,10 +95,31 @@ module _ {C O R : Type 0} (m : Meaning C O R) where
     };
   }
 
+  -- ---- how far a store has come
+
+  -- it took nothing
+  comes_on_itself : (base : Stored C R) (since : List (Message C O R)) →
+      ComesOn m base base since since
+  comes_on_itself base since = record { done = []; split = refl; store = refl }
+
+  -- it took some, and then some more
+  comes_on_again : (a b c : Stored C R) (xs ys zs : List (Message C O R)) →
+      ComesOn m a b xs ys → ComesOn m b c ys zs → ComesOn m a c xs zs
+  comes_on_again a b c xs ys zs first second = record {
+    done = first.done ++ second.done;
+    split = first.split ∙ ap (λ vs. first.done ++ vs) second.split
+        ∙ sym (append_assoc first.done second.done zs);
+    store = second.store ∙ ap (λ s. folded m s second.done) first.store
+        ∙ sym (fold-append (taken m) a first.done second.done);
+  }
+
+  -- ---- from one home to the next
+
   -- nothing happened
   pub goes_on_itself : (s : Sender C O R) (h : Home C O R) → IsTakenFrom m s h →
       HasGoneOn m s s h h
-  goes_on_itself s h whole = record { whole = whole; same = refl }
+  goes_on_itself s h whole =
+      record { whole = whole; same = refl; on = comes_on_itself (stored h.store) (sent_since s h) }
 
   -- one message more was sent
   pub sent_more : (s s' : Sender C O R) (h : Home C O R) (x : Message C O R) →
@@ -120,6 +141,9 @@ module _ {C O R : Type 0} (m : Meaning C O R) where
         };
         takes = ap (λ xs. folded m base xs) since
             ∙ fold-append (taken m) base (sent_since s h) (x ∷ []);
+        left = sent_since s h;
+        on = comes_on_itself base (sent_since s h);
+        last = since;
       }
 
   stop_changes_nothing : (s : Stored C R) → taken m s message.Stop ≡ s
@@ -130,7 +154,7 @@ module _ {C O R : Type 0} (m : Meaning C O R) where
 
   -- a stop was sent
   pub sent_stop : (s s' : Sender C O R) (h : Home C O R) → IsTakenFrom m s h →
-      IsSameSender s s' → sent s' ≡ sent s ++ message.Stop ∷ [] → HasGoneOn m s s' h h
+      IsSameSender s s' → sent s' ≡ sent s ++ message.Stop ∷ [] → ComesToSame m s s' h
   sent_stop s s' h whole same more =
       let sends = sent_more s s' h message.Stop whole same more refl in
       record {
@@ -169,6 +193,11 @@ module _ {C O R : Type 0} (m : Meaning C O R) where
             ∙ ap (λ t. folded m t rest) folds
             ∙ sym (fold-append (taken m) base back.messages rest)
             ∙ ap (λ xs. folded m base xs) split;
+        on = record {
+          done = back.messages;
+          split = sym split ∙ ap (λ xs. back.messages ++ xs) (sym since);
+          store = folds;
+        };
       }
 
   -- its sender looked, and sent nothing
@@ -195,13 +224,23 @@ module _ {C O R : Type 0} (m : Meaning C O R) where
   -- one step after the other
   pub gone_on_again : (s t u : Sender C O R) (h k l : Home C O R) → HasGoneOn m s t h k →
       HasGoneOn m t u k l → HasGoneOn m s u h l
-  gone_on_again s t u h k l first second =
-      record { whole = second.whole; same = second.same ∙ first.same }
+  gone_on_again s t u h k l first second = record {
+    whole = second.whole;
+    same = second.same ∙ first.same;
+    on = comes_on_again (stored h.store) (stored k.store) (stored l.store) (sent_since s h)
+        (sent_since t k) (sent_since u l) first.on second.on;
+  }
 
   pub gone_on_taken : (s t u : Sender C O R) (h k l : Home C O R) (x : Message C O R) →
       HasGoneOn m s t h k → HasTakenIn m t u k l x → HasTakenIn m s u h l x
-  gone_on_taken s t u h k l x first second =
-      record { whole = second.whole; takes = second.takes ∙ ap (λ v. taken m v x) first.same }
+  gone_on_taken s t u h k l x first second = record {
+    whole = second.whole;
+    takes = second.takes ∙ ap (λ v. taken m v x) first.same;
+    left = second.left;
+    on = comes_on_again (stored h.store) (stored k.store) (stored l.store) (sent_since s h)
+        (sent_since t k) second.left first.on second.on;
+    last = second.last;
+  }
 
 module _ {C W O R : Type 0} (m : Meaning C O R) (home_of : W → Home C O R) where
   -- ---- an end
@@ -215,6 +254,28 @@ module _ {C W O R : Type 0} (m : Meaning C O R) (home_of : W → Home C O R) whe
   comes_by end taker is =
       ap (λ t. folded m (base_by m home_of t) (since_by home_of end.sender t)) is
 
+  base_is : (end : LaneEnd C W O R) (taker : Taker C W O R) → end.taker ≡ Some taker →
+      base_of m home_of end ≡ stored (taker_home home_of taker).store
+  base_is end taker is = ap (base_by m home_of) is
+
+  since_at : (end : LaneEnd C W O R) (taker : Taker C W O R) → end.taker ≡ Some taker →
+      since_of home_of end ≡ sent_since end.sender (taker_home home_of taker)
+  since_at end taker is = ap (since_by home_of end.sender) is
+
+  -- how far the homes have come is how far the ends have
+  end_comes_on : (old new : LaneEnd C W O R) (taker taker' : Taker C W O R)
+      (left : List (Message C O R)) → old.taker ≡ Some taker → new.taker ≡ Some taker' →
+      ComesOn m (stored (taker_home home_of taker).store)
+      (stored (taker_home home_of taker').store)
+      (sent_since old.sender (taker_home home_of taker)) left →
+      ComesOn m (base_of m home_of old) (base_of m home_of new) (since_of home_of old) left
+  end_comes_on old new taker taker' left was is on = record {
+    done = on.done;
+    split = since_at old taker was ∙ on.split;
+    store = base_is new taker' is ∙ on.store
+        ∙ ap (λ s. folded m s on.done) (sym (base_is old taker was));
+  }
+
   pub end_goes_on : (old new : LaneEnd C W O R) (taker taker' : Taker C W O R) →
       old.taker ≡ Some taker → new.taker ≡ Some taker' →
       HasGoneOn m old.sender new.sender (taker_home home_of taker) (taker_home home_of taker') →
@@ -222,7 +283,15 @@ module _ {C W O R : Type 0} (m : Meaning C O R) (home_of : W → Home C O R) whe
   end_goes_on old new taker taker' was is goes = record {
     whole = subst (λ t. IsTakenBy m home_of new.sender t) (sym is) goes.whole;
     same = comes_by new taker' is ∙ goes.same ∙ sym (comes_by old taker was);
+    on = subst (ComesOn m (base_of m home_of old) (base_of m home_of new) (since_of home_of old))
+        (sym (since_at new taker' is))
+        (end_comes_on old new taker taker' _ was is goes.on);
   }
+
+  -- an end that is as it was before a step took it
+  pub takes_in_from : (old same new : LaneEnd C W O R) (x : Message C O R) → same ≡ old →
+      TakesIn m home_of same new x → TakesIn m home_of old new x
+  takes_in_from old same new x is takes = subst (λ end. TakesIn m home_of end new x) is takes
 
   pub end_takes_in : (old new : LaneEnd C W O R) (taker taker' : Taker C W O R)
       (x : Message C O R) → old.taker ≡ Some taker → new.taker ≡ Some taker' →
@@ -232,6 +301,9 @@ module _ {C W O R : Type 0} (m : Meaning C O R) (home_of : W → Home C O R) whe
     whole = subst (λ t. IsTakenBy m home_of new.sender t) (sym is) takes.whole;
     takes = comes_by new taker' is ∙ takes.takes
         ∙ ap (λ v. taken m v x) (sym (comes_by old taker was));
+    left = takes.left;
+    on = end_comes_on old new taker taker' takes.left was is takes.on;
+    last = since_at new taker' is ∙ takes.last;
   }
 
   -- no end is whole without a taker
@@ -240,13 +312,20 @@ module _ {C W O R : Type 0} (m : Meaning C O R) (home_of : W → Home C O R) whe
 
   pub goes_on_takes_in : (old mid new : LaneEnd C W O R) (x : Message C O R) →
       GoesOn m home_of old mid → TakesIn m home_of mid new x → TakesIn m home_of old new x
-  goes_on_takes_in old mid new x first second =
-      record { whole = second.whole; takes = second.takes ∙ ap (λ v. taken m v x) first.same }
+  goes_on_takes_in old mid new x first second = record {
+    whole = second.whole;
+    takes = second.takes ∙ ap (λ v. taken m v x) first.same;
+    left = second.left;
+    on = comes_on_again m (base_of m home_of old) (base_of m home_of mid)
+        (base_of m home_of new) (since_of home_of old) (since_of home_of mid) second.left first.on
+        second.on;
+    last = second.last;
+  }
 
   -- all was taken from a home that came back
   pub has_come : (old new : LaneEnd C W O R) (taker : Taker C W O R) (mid : Sender C O R)
       (home : Home C O R) → old.taker ≡ Some taker →
-      HasGoneOn m old.sender mid (taker_home home_of taker) (taker_home home_of taker) →
+      ComesToSame m old.sender mid (taker_home home_of taker) →
       HasGoneOn m mid new.sender (taker_home home_of taker) home →
       received home.receiver ≡ sent new.sender → HasCome m home_of old new home
   has_come old new taker mid home is first second all = record {

@@ -3,6 +3,8 @@
 -- Messages are taken from one home: the lane's own, or that which its delegate was handed. What was
 -- taken from it since can't be seen. So a lane is seen as the store of that home, and the messages
 -- sent since. Once these are taken the lane comes to one store, however far its delegate has come.
+-- A call may see that the lane came on: its store took the first of these messages, and the others are
+-- left.
 use Rattle.std.specs.Prelude.{◌≡◌, Bool, true, false, ◌&&◌, is_none, is_some, Option, Some, None, List, [], ◌∷◌, ◌++◌, length, drop}
 use Rattle.execution_definitions.specs.Meanings.{Meaning}
 use Rattle.set_queue.specs.Ends.{sent, received, AreOneLane}
@@ -45,16 +47,33 @@ module _ {C O R : Type 0} (m : Meaning C O R) where
     pub unbroken : (stored home.store).is_broken ≡ false
     pub served : each_finds (stored home.store) (sent_since sender home) ≡ true
 
-  -- another home took its place, and comes to the same
+  -- a store came on: of the messages that waited for it, it took the first, in their order, and the
+  -- others are left
+  pub record ComesOn (base after : Stored C R) (since left : List (Message C O R)) : Type 0 where
+    pub done : List (Message C O R)
+    pub split : since ≡ done ++ left
+    pub store : after ≡ folded m base done
+
+  -- more may have been sent, such as a stop, and from the same home the lane comes to the same
+  pub record ComesToSame (old new : Sender C O R) (home : Home C O R) : Type 0 where
+    pub whole : IsTakenFrom new home
+    pub same : comes_from new home ≡ comes_from old home
+
+  -- another home took its place, which has come on, and comes to the same
   pub record HasGoneOn (old new : Sender C O R) (home back : Home C O R) : Type 0 where
     pub whole : IsTakenFrom new back
     pub same : comes_from new back ≡ comes_from old home
+    pub on : ComesOn (stored home.store) (stored back.store) (sent_since old home)
+        (sent_since new back)
 
-  -- and one message more was sent
+  -- another home took its place, which has come on, and then one message more was sent
   pub record HasTakenIn (old new : Sender C O R) (home back : Home C O R) (x : Message C O R)
       : Type 0 where
     pub whole : IsTakenFrom new back
     pub takes : comes_from new back ≡ taken m (comes_from old home) x
+    pub left : List (Message C O R)
+    pub on : ComesOn (stored home.store) (stored back.store) (sent_since old home) left
+    pub last : sent_since new back ≡ left ++ x ∷ []
 
 module _ {C W O R : Type 0} where
   -- a delegate in a thread of its own takes the messages
@@ -107,15 +126,19 @@ module _ {C W O R : Type 0} (m : Meaning C O R) (home_of : W → Home C O R) whe
     pub empty : base_of end ≡ empty_store m
     pub none : since_of home_of end ≡ []
 
-  -- the lane comes to the same
+  -- the lane came on, and comes to the same
   pub record GoesOn (old new : LaneEnd C W O R) : Type 0 where
     pub whole : IsWhole new
     pub same : comes_to new ≡ comes_to old
+    pub on : ComesOn m (base_of old) (base_of new) (since_of home_of old) (since_of home_of new)
 
-  -- the lane took this message in
+  -- the lane came on, and then took this message in, which is the last that waits
   pub record TakesIn (old new : LaneEnd C W O R) (x : Message C O R) : Type 0 where
     pub whole : IsWhole new
     pub takes : comes_to new ≡ taken m (comes_to old) x
+    pub left : List (Message C O R)
+    pub on : ComesOn m (base_of old) (base_of new) (since_of home_of old) left
+    pub last : since_of home_of new ≡ left ++ x ∷ []
 
   -- all was taken, and this is the home
   pub record HasCome (old new : LaneEnd C W O R) (home : Home C O R) : Type 0 where

@@ -2,7 +2,7 @@
 ghost use Rattle.std.specs.Prelude.{IfOk};
 ghost use Rattle.set_queue.specs.Ends.{AreOneLane};
 ghost use Rattle.delegates.specs.Works.{HasReturned};
-ghost use Rattle.lane_ends.specs.LaneEnds.{IsTakenFrom, IsWhole, HasGoneOn, HasCome, taker_home};
+ghost use Rattle.lane_ends.specs.LaneEnds.{IsTakenFrom, IsWhole, ComesToSame, HasCome, taker_home};
 
 use crate::lane_end::{LaneEnd, Taker};
 use crate::waiting::{send_waiting, take_all};
@@ -23,8 +23,8 @@ fn take_home<C: LocalClass, W: LaneWorker<C>, R: Threads + Wait>(
     requires { IsTakenFrom C.local_meaning sender.old (taker_home W.home_of taker) }
     ensures one { AreOneLane sender.new result.receiver }
     ensures back { HasReturned C.local_meaning (taker_home W.home_of taker) result }
-    ensures goes_on { HasGoneOn C.local_meaning sender.old sender.new
-        (taker_home W.home_of taker) (taker_home W.home_of taker) }
+    ensures same { ComesToSame C.local_meaning sender.old sender.new
+        (taker_home W.home_of taker) }
 {
     match taker {
         Taker::Program(home) => home,

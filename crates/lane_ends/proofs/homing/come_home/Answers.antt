@@ -11,5 +11,5 @@ returns g c =
     let came = c.take_home-home.ensures in
     if_ok2 c.take_all.result _ _ _ c.take_all.ensures.all c.take_all.ensures.goes_on
     (λ home all goes_on. has_come m home_of c.args.end.now _ taker c.take_home-home.new.sender home
-    (sym c.take.ensures.value ∙ c.in-Some.is) came.goes_on
-    (goes_on (taker_home home_of taker) came.goes_on.whole came.back) all)
+    (sym c.take.ensures.value ∙ c.in-Some.is) came.same
+    (goes_on (taker_home home_of taker) came.same.whole came.back) all)
