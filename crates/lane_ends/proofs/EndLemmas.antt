@@ -289,6 +289,10 @@ module _ {C W O R : Type 0} (m : Meaning C O R) (home_of : W → Home C O R) whe
   }
 
   -- an end that is as it was before a step took it
+  pub goes_on_from : (old same new : LaneEnd C W O R) → same ≡ old →
+      GoesOn m home_of same new → GoesOn m home_of old new
+  goes_on_from old same new is goes = subst (λ end. GoesOn m home_of end new) is goes
+
   pub takes_in_from : (old same new : LaneEnd C W O R) (x : Message C O R) → same ≡ old →
       TakesIn m home_of same new x → TakesIn m home_of old new x
   takes_in_from old same new x is takes = subst (λ end. TakesIn m home_of end new x) is takes

@@ -49,24 +49,22 @@ fn hire<C: LocalClass, W: LaneWorker<C>, H: Starter<Home<C>, Taker<C, W>>>(
     if end.was_refused {
         return Ok(());
     }
-    match end.taker.take() {
-        Some(Taker::Program(home)) => match hirer.start(home) {
-            Taker::Program(back) => {
-                let home = look(&mut end.sender, back)?;
-                end.was_refused = true;
-                end.taker = Some(Taker::Program(home));
-                Ok(())
-            }
-            Taker::Delegate { worker, bell } => {
-                end.taker = Some(Taker::Delegate { worker, bell });
-                Ok(())
-            }
-        },
-        other => {
-            end.taker = other;
-            Ok(())
-        }
+    // So it is at each message but the first: the taker is looked at and not moved.
+    if let Some(Taker::Delegate { .. }) = &end.taker {
+        return Ok(());
     }
+    let Some(Taker::Program(home)) = end.taker.take() else {
+        unreachable!()
+    };
+    match hirer.start(home) {
+        Taker::Program(back) => {
+            let home = look(&mut end.sender, back)?;
+            end.was_refused = true;
+            end.taker = Some(Taker::Program(home));
+        }
+        Taker::Delegate { worker, bell } => end.taker = Some(Taker::Delegate { worker, bell }),
+    }
+    Ok(())
 }
 
 // Sends a message to a lane from which the program context takes. Where there is no room, it first
