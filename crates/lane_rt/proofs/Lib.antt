@@ -2,5 +2,4 @@ mod CallLemmas
 mod PlacedLemmas
 mod KeptLemmas
 mod RunningLemmas
-mod TakenLemmas
 mod ViewLemmas

@@ -31,6 +31,9 @@ use Rattle.lane_objects.proofs.ListLemmas.{get-set, get-set_other}
 use Rattle.lane_objects.proofs.OutcomeLemmas.{sent_put, sent_home, total_home}
 use Rattle.lane_objects.proofs.RunLemmas.{HasRun, apart_put, state_put}
 use Rattle.lane_objects.proofs.HomeLemmas.{values_homed, apart_homed, none_sent}
+use Rattle.lane_store.specs.Running.{Enters}
+use Rattle.lane_store.proofs.ViewLemmas.{store_here}
+use Rattle.lane_store.proofs.ComeLemmas.{lane_homed, comes_on_again, enters_after}
 
 module _ {C W O R : Type 0} where
   -- every end but one is as it was
@@ -120,12 +123,6 @@ module _ {C W O R : Type 0} (m : Meaning C O R) (home_of : W → Home C O R) whe
       ≡ slice_set (stores_of m home_of ends) l (comes_to m home_of new)
   stores_set ends l new = map-set (comes_to m home_of) ends l new
 
-  pub store_here : (ends : List (LaneEnd C W O R)) (l : ℕ) (end : LaneEnd C W O R) →
-      slice_get ends l ≡ Some end →
-      slice_get (stores_of m home_of ends) l ≡ Some (comes_to m home_of end)
-  store_here ends l end here =
-      slice_get-map (comes_to m home_of) ends l ∙ ap (option_map (comes_to m home_of)) here
-
   -- ---- a store
 
   pub continues_on : (a b c : LaneStore C W O R) → Continues m home_of a b →
@@ -138,6 +135,7 @@ module _ {C W O R : Type 0} (m : Meaning C O R) (home_of : W → Home C O R) whe
     lanes = second.lanes ∙ first.lanes;
     logs = fronts_trans a.logs.items b.logs.items c.logs.items first.logs second.logs;
     found = λ n k number is. first.found n k number (second.found n k number is);
+    comes_on = comes_on_again m home_of a b c first.comes_on second.comes_on;
   }
 
   -- a lane comes home
@@ -160,7 +158,7 @@ module _ {C W O R : Type 0} (m : Meaning C O R) (home_of : W → Home C O R) whe
       let is = comes_to m home_of new in
       let empty : is ≡ empty_store m = idle_comes new idle in
       let no_values = ap (λ (s : Stored C R). s.values) empty in
-      let at = store_here store.ends.items l old here in
+      let at = store_here m home_of store.ends.items l old here in
       let stores_are : stores_of m home_of now.ends.items ≡ slice_set stores l is =
       ap (stores_of m home_of) ends_are ∙ stores_set store.ends.items l new in
       record {
@@ -192,6 +190,8 @@ module _ {C W O R : Type 0} (m : Meaning C O R) (home_of : W → Home C O R) whe
               (fronts_more store.logs.items l log was.runs logged);
           found = none_sent objects now.objects.items stores l was is whole.apart at no_values home
               count;
+          comes_on = lane_homed m home_of laws store now l old new log whole here logged idle home count
+              total_is ends_are logs_are;
         };
         idle = λ end at. subst (IsIdle m home_of) (same_Some _ _
             (sym (ap (λ ends. slice_get ends l) ends_are ∙ get-set store.ends.items l old new here)
@@ -216,9 +216,10 @@ module _ {C W O R : Type 0} (m : Meaning C O R) (home_of : W → Home C O R) whe
       (m.step (value_after (stores_of m home_of store.ends.items) object) op read) →
       now.objects.items ≡ slice_set store.objects.items run.object.0 goes →
       now.total ≡ store.total → now.ends.items ≡ slice_set store.ends.items l new →
-      now.logs.items ≡ store.logs.items → Sends m home_of store now l run op read
+      now.logs.items ≡ store.logs.items → Enters m home_of store now l run op read →
+      Sends m home_of store now l run op read
   sends store now l old new x run object goes op read laws whole here count at away from takes has
-      objects_are total_is ends_are logs_are =
+      objects_are total_is ends_are logs_are enters =
       let objects = store.objects.items in
       let stores = stores_of m home_of store.ends.items in
       let was = comes_to m home_of old in
@@ -226,7 +227,7 @@ module _ {C W O R : Type 0} (m : Meaning C O R) (home_of : W → Home C O R) whe
       let after = m.step (value_after stores object) op read in
       let ran : HasRun m was is run after =
       subst (λ s. HasRun m was s run after) (sym takes.takes) has in
-      let there = store_here store.ends.items l old here in
+      let there = store_here m home_of store.ends.items l old here in
       let stores_are : stores_of m home_of now.ends.items ≡ slice_set stores l is =
       ap (stores_of m home_of) ends_are ∙ stores_set store.ends.items l new in
       record {
@@ -257,6 +258,7 @@ module _ {C W O R : Type 0} (m : Meaning C O R) (home_of : W → Home C O R) whe
         others = λ n k number differs is.
             sym (ap (λ os. found_at os n) objects_are
             ∙ ap found_in (get-set_other objects run.object.0 n goes differs)) ∙ is;
+        enters = enters;
       }
 
   -- an operation went to a lane of a store that had gone on
@@ -273,4 +275,5 @@ module _ {C W O R : Type 0} (m : Meaning C O R) (home_of : W → Home C O R) whe
     logs = fronts_trans a.logs.items b.logs.items c.logs.items on.logs sends.logs;
     there = sends.there;
     others = λ n k number differs is. on.found n k number (sends.others n k number differs is);
+    enters = enters_after m home_of a b c l run op read now on.comes_on same sends.enters;
   }

@@ -1,5 +1,5 @@
 -- What does a lane store come to, and what is kept of it between calls?
-use Rattle.std.specs.Prelude.{◌≡◌, ℕ, ◌+◌, ◌<◌, Bool, true, false, Option, Some, None, Result, Err, List, [], length, map, slice_get, replicate}
+use Rattle.std.specs.Prelude.{◌≡◌, ℕ, ◌+◌, ◌<◌, Bool, true, false, Option, Some, None, Result, Err, List, [], ◌∷◌, ◌++◌, length, map, slice_get, replicate}
 use Rattle.ss_base.specs.declared.ids.Run.{Run}
 use Rattle.ss_base.specs.declared.ids.ObjectId.{ObjectId}
 use Rattle.ss_base.specs.declared.ids.SetId.{SetId}
@@ -17,8 +17,9 @@ use Rattle.lane_ends.specs.declared.lane_end.LaneEnd.{LaneEnd}
 use Rattle.lane_ends.specs.LaneEnds.{has_worker, comes_to, IsWhole, IsIdle}
 use Rattle.lane_objects.specs.declared.object.Object.{Object}
 use Rattle.lane_store.specs.declared.store.LaneStore.{LaneStore}
-use Rattle.lane_objects.specs.Objects.{found_at, NoneSent}
+use Rattle.lane_objects.specs.Objects.{value_at_home, found_at, NoneSent}
 use Rattle.lane_objects.specs.Outcomes.{sent_runs, state_from, AreApart}
+use Rattle.lane_store.specs.Running.{ComesOn, Enters}
 
 -- all lanes are so
 abbrev pub Each : {C W O R : Type 0} → (LaneEnd C W O R → Type 0) → List (LaneEnd C W O R) → Type 0
@@ -80,6 +81,7 @@ module _ {C W O R : Type 0} (m : Meaning C O R) (home_of : W → Home C O R) whe
     pub lanes : length new.ends.items ≡ length old.ends.items
     pub logs : AreFronts old.logs.items new.logs.items
     pub found : NoneSent old.objects.items new.objects.items
+    pub comes_on : ComesOn m home_of old new
 
   -- and a lane came home
   pub record ComesHome (old new : LaneStore C W O R) (lane : ℕ) : Type 0 where
@@ -97,6 +99,8 @@ module _ {C W O R : Type 0} (m : Meaning C O R) (home_of : W → Home C O R) whe
     pub lanes : new.ends.items ≡ old.ends.items
     pub logs : new.logs.items ≡ old.logs.items
     pub found : NoneSent old.objects.items new.objects.items
+    pub values : map value_at_home new.objects.items ≡ map value_at_home old.objects.items ++ Some value ∷ []
+    pub total : new.total ≡ old.total
 
   -- an operation went to the end of a lane
   pub record Sends (old new : LaneStore C W O R) (lane : ℕ) (run : Run) (op : O)
@@ -113,6 +117,12 @@ module _ {C W O R : Type 0} (m : Meaning C O R) (home_of : W → Home C O R) whe
         (n k number : ℕ) → (n ≡ run.object.0 → ⊥) →
         found_at new.objects.items n ≡ Some (k, number) →
         found_at old.objects.items n ≡ Some (k, number)
+    pub enters : Enters m home_of old new lane run op read
+
+  -- nothing is in the lane of a set
+  abbrev pub IsIdleFor : LaneStore C W O R → ℕ → Option SetId → Type 0
+  IsIdleFor store n None = Unit {0}
+  IsIdleFor store n (Some set) = IsIdleAt (lane_of_set set.0 n) store.ends.items
 
   -- the lane of a set has done all that was sent to it
   abbrev pub IsCaughtUp : LaneStore C W O R → ℕ → Option SetId → Type 0

@@ -7,7 +7,8 @@ ghost use Rattle.partition_check.specs.MarkedAfter.{marked_after};
 ghost use Rattle.partition_check.specs.Marked.{set_delegated};
 ghost use Rattle.execution_definitions.specs.Sequential.{operated};
 ghost use Rattle.lane_objects.specs.Objects.{value_at_home, found_at, NoneSent};
-ghost use Rattle.lane_store.specs.LaneStores.{store_state, IsWholeStore, AreIdle, Continues, IsAdded, IsUnchanged, IsCaughtUp, IsNewStore, has_worker_at};
+ghost use Rattle.lane_store.specs.Running.{TakesEffect};
+ghost use Rattle.lane_store.specs.LaneStores.{store_state, IsWholeStore, AreIdle, Continues, IsAdded, IsUnchanged, IsIdleFor, IsCaughtUp, IsNewStore, has_worker_at};
 
 use crate::home::bring_home;
 use crate::store::LaneStore;
@@ -104,6 +105,8 @@ fn catch_up<C: LocalClass, W: LaneWorker<C>, R: Threads + Wait>(
         (Continues C.local_meaning W.home_of store.old store.new) }
     ensures caught_up { OnOk result
         (IsCaughtUp C.local_meaning W.home_of store.new delegates set) }
+    ensures idle_for { OnOk result
+        (IsIdleFor C.local_meaning W.home_of store.new delegates set) }
     ensures found { OnOk result (NoneSent store.old.objects.items store.new.objects.items) }
 {
     match set {
@@ -133,6 +136,8 @@ pub fn reclaim<C: LocalClass, W: LaneWorker<C>, R: Threads + Wait>(
         (marks.now.is_open ≡ false → AreIdle C.local_meaning W.home_of store.new) }
     ensures home { OnOk result (found_at store.new.objects.items o.0 ≡ None) }
     ensures caught_up { OnOk result (IsCaughtUp C.local_meaning W.home_of store.new delegates
+        (set_delegated marks.now o.0)) }
+    ensures idle_for { OnOk result (IsIdleFor C.local_meaning W.home_of store.new delegates
         (set_delegated marks.now o.0)) }
 {
     // In aggregation all objects are at home.
@@ -214,6 +219,8 @@ pub fn operate<C: LocalClass, W: LaneWorker<C>>(
     ensures state { OnOk result (store_state C.local_meaning W.home_of store.new
         ≡ operated C.local_meaning (store_state C.local_meaning W.home_of store.old) o.0 op.now
         None) }
+    ensures effect { OnOk result (TakesEffect C.local_meaning store.old.objects.items
+        store.new.objects.items store.old.total store.new.total o.0 op.now) }
     ensures whole { OnOk result (IsWholeStore C.local_meaning W.home_of store.new) }
     ensures objects { length store.new.objects.items ≡ length store.old.objects.items }
     ensures lanes { store.new.ends.items ≡ store.old.ends.items }

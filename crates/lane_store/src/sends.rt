@@ -5,6 +5,8 @@ ghost use Rattle.std.specs.Arc.{arc_value};
 ghost use Rattle.execution_definitions.specs.Sequential.{value_read};
 ghost use Rattle.lane_ends.specs.Workers.{HasHired};
 ghost use Rattle.lane_objects.specs.Objects.{found_at, lane_and_number};
+ghost use Rattle.ss_base.specs.declared.ids.ObjectId.{ObjectId};
+ghost use Rattle.lane_store.specs.Running.{ReadsAtHome};
 ghost use Rattle.lane_store.specs.LaneStores.{store_state, IsWholeStore, Continues, Sends, HasAll, has_worker_at};
 
 use crate::calls::bring_object_home;
@@ -32,6 +34,7 @@ fn share_one<C: LocalClass, W: LaneWorker<C>>(
     ensures value { IfOk result (λ shared.
         slice_get (store_state C.local_meaning W.home_of store.old).values o.0
         ≡ Some (arc_value shared)) }
+    ensures home { OnOk result (found_at store.new.objects.items o.0 ≡ None) }
 {
     share_object(store.alloc, &mut store.objects[o.0 as usize])
 }
@@ -50,6 +53,8 @@ fn share<C: LocalClass, W: LaneWorker<C>, R: Threads + Wait>(
     ensures value { IfOk result (λ shared. option_map arc_value shared
         ≡ value_read (store_state C.local_meaning W.home_of store.old).values reading) }
     ensures none { reading ≡ None → IsOk result × (store.new ≡ store.old) }
+    ensures home { OnOk result ((read : ObjectId) → reading ≡ Some read →
+        found_at store.new.objects.items read.0 ≡ None) }
 {
     let Some(read) = reading else {
         return Ok(None);
@@ -181,6 +186,8 @@ pub fn delegate<
     requires known { run.object.0 < length store.old.objects.items }
     requires read_known { HasAll (length store.old.objects.items) reading }
     ensures sends { OnOk result (Sends C.local_meaning W.home_of store.old store.new lane run op
+        (value_read (store_state C.local_meaning W.home_of store.old).values reading)) }
+    ensures reads { OnOk result (ReadsAtHome store.new.objects.items run.object.0 reading
         (value_read (store_state C.local_meaning W.home_of store.old).values reading)) }
     ensures succeeds { reading ≡ None →
         found_at store.old.objects.items run.object.0 ≡ Some (lane, run.object.0) →

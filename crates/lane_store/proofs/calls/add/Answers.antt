@@ -2,7 +2,7 @@ use Rattle.std.proofs.Common.{refl, sym, ap, ◌∙◌, map, length}
 use Rattle.std.proofs.lemmas.List.{map_push, length_push}
 use Rattle.delegation.specs.PlainParts.{state_of}
 use Rattle.lane_objects.specs.declared.object.Object.TheVariants.{Here}
-use Rattle.lane_objects.specs.Objects.{found_at}
+use Rattle.lane_objects.specs.Objects.{value_at_home, found_at}
 use Rattle.lane_objects.specs.Outcomes.{value_after, total_after}
 use Rattle.lane_store.specs.LaneStores.{stores_of}
 use Rattle.lane_objects.proofs.OutcomeLemmas.{apart_by_found, found_push}
@@ -31,4 +31,7 @@ returns-clause-added g c =
       found = λ n k number is.
           sym (ap (λ items. found_at items n) pushed
           ∙ found_push store.objects.items (Here c.args.value) refl n) ∙ is;
+      values = ap (map value_at_home) pushed
+          ∙ map_push value_at_home store.objects.items (Here c.args.value);
+      total = refl;
     }

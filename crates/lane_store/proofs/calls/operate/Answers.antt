@@ -1,13 +1,15 @@
-use Rattle.std.proofs.Common.{refl, length, sym, ap, ◌∙◌}
+use Rattle.std.proofs.Common.{Some, map, refl, length, sym, ap, ◌∙◌}
+use Rattle.std.specs.Prelude.{slice_set}
 use Rattle.std.specs.Option.{option_copied}
-use Rattle.std.proofs.lemmas.List.{length-set, set-set}
+use Rattle.std.proofs.lemmas.List.{map-set, length-set, set-set}
 use Rattle.std.proofs.lemmas.Option.{slice_get_read}
 use Rattle.lane_objects.specs.declared.object.Object.TheVariants.{Here}
-use Rattle.lane_objects.specs.Objects.{found_in, found_at}
+use Rattle.lane_objects.specs.Objects.{value_at_home, found_in, found_at}
 use Rattle.lane_objects.specs.Outcomes.{state_from}
 use Rattle.lane_store.specs.LaneStores.{stores_of}
 use Rattle.lane_objects.proofs.OutcomeLemmas.{laws_from, apart_by_found, found_set}
 use Rattle.lane_objects.proofs.RunLemmas.{state_operated}
+use Rattle.lane_store.proofs.ComeLemmas.{value_at}
 use Rattle.lane_store.proofs.calls.operate.Goals as goal
 
 pub returns : goal.returns
@@ -26,14 +28,24 @@ returns g c =
     let sum_is = c.in_ok-local_apply.ensures.contribution
     ∙ ap (λ read. m.join store.total
     (m.step c.in_ok-value.value c.args.op.now (option_copied read)).1) c.no_reading.ensures in
+    let value_is = c.in_ok-local_apply.ensures.value
+    ∙ ap (λ read. (m.step c.in_ok-value.value c.args.op.now (option_copied read)).0)
+    c.no_reading.ensures in
     record {
       state = ap (λ objects. state_from m objects c.local_apply.new.red stores) set
           ∙ state_operated m objects stores c.args.o.0 old c.args.op.now c.in_ok-value.value
           c.local_apply.new.self store.total c.local_apply.new.red laws
           at c.in_ok-value.ensures.value
-          (c.in_ok-local_apply.ensures.value ∙ ap (λ read. (m.step c.in_ok-value.value c.args.op.now
-          (option_copied read)).0) c.no_reading.ensures)
-          sum_is;
+          value_is sum_is;
+      effect = record {
+        value = c.in_ok-value.value;
+        was = value_at m g.W.LaneWorker.home_of objects c.args.o.0 old at
+            ∙ ap Some c.in_ok-value.ensures.value;
+        now = ap (map value_at_home) set
+            ∙ map-set value_at_home objects c.args.o.0 now
+            ∙ ap (λ v. slice_set (map value_at_home objects) c.args.o.0 (Some v)) value_is;
+        total_is = sum_is;
+      };
       whole = record {
         apart = rw set (apart_by_found objects _ stores c.requires.whole.apart
             (found_set objects c.args.o.0 old now at

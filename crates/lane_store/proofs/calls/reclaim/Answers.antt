@@ -3,7 +3,7 @@ use Rattle.std.proofs.lemmas.Result.{on_ok_weaker}
 use Rattle.lane_objects.specs.Objects.{found_at}
 use Rattle.lane_store.proofs.IdleLemmas.{idle_home, still_home}
 use Rattle.lane_store.proofs.StoreLemmas.{continues_on}
-use Rattle.lane_store.proofs.CallLemmas.{idle_catch}
+use Rattle.lane_store.proofs.CallLemmas.{idle_catch, idle_for_all}
 use Rattle.lane_store.proofs.calls.reclaim.Goals as goal
 
 pub returns-then-not-isolating-clause-home : goal.returns-then-not-isolating-clause-home
@@ -17,6 +17,11 @@ returns-then-not-isolating-clause-caught_up g c =
     idle_catch g.C.LocalClass.local_meaning g.W.LaneWorker.home_of c.args.store.now
     c.args.delegates _ (c.requires.logs ∙ sym c.requires.lanes)
     (c.requires.idle (sym c.isolating.ensures ∙ c.if-not-isolating.true))
+
+pub returns-then-not-isolating-clause-idle_for : goal.returns-then-not-isolating-clause-idle_for
+returns-then-not-isolating-clause-idle_for g c =
+    idle_for_all g.C.LocalClass.local_meaning g.W.LaneWorker.home_of c.args.store.now
+    c.args.delegates _ (c.requires.idle (sym c.isolating.ensures ∙ c.if-not-isolating.true))
 
 pub returns-clause-continues : goal.returns-clause-continues
 returns-clause-continues g c =

@@ -1,6 +1,7 @@
 use Rattle.std.proofs.Common.{refl, length, sym, ap, ◌∙◌, subst, inl, Some}
 use Rattle.std.specs.Option.{option_map}
 use Rattle.std.specs.Arc.{arc_value}
+use Rattle.std.specs.Vec.{with_item}
 use Rattle.std.proofs.lemmas.Option.{slice_get_read}
 use Rattle.std.proofs.lemmas.Result.{on_ok_weaker}
 use Rattle.set_queue.specs.declared.message.Message.TheVariants as message
@@ -11,7 +12,10 @@ use Rattle.lane_objects.specs.Outcomes.{value_after}
 use Rattle.lane_store.specs.LaneStores.{stores_of}
 use Rattle.lane_objects.proofs.OutcomeLemmas.{laws_from, not_in_lane, value_home}
 use Rattle.lane_objects.proofs.RunLemmas.{HasRun, has_carried}
-use Rattle.lane_store.proofs.StoreLemmas.{store_here, comes_to_whole, sends}
+use Rattle.lane_core.proofs.StepLemmas.{same_as_itself}
+use Rattle.lane_store.proofs.ViewLemmas.{store_here, away_value}
+use Rattle.lane_store.proofs.ComeLemmas.{carry_enters}
+use Rattle.lane_store.proofs.StoreLemmas.{comes_to_whole, sends}
 use Rattle.lane_store.proofs.sends.carry.Goals as goal
 
 pub post-requires : goal.post-requires
@@ -63,5 +67,13 @@ returns g c =
     (laws_from m _ _ g.met.C.LocalClass.local_same_unit g.met.C.LocalClass.local_same_join
     g.met.C.LocalRed.LocalReducible.local_laws)
     c.requires.whole here c.requires.logged at c.in_ok-value.ensures.sent (inl home) takes has
-    refl refl refl refl)
+    refl refl refl refl
+    (carry_enters m home_of store
+    (record store {
+      objects = with_item store.objects run.object.0 c.send_object.new.object;
+      ends = with_item store.ends c.args.lane c.post.new.end;
+    }) c.args.lane old c.post.new.end x run c.args.op read
+    c.requires.whole here takes refl refl refl refl object c.send_object.new.object value at
+    c.in_ok-value.ensures.value (away_value c.send_object.new.object _ c.in_ok-value.ensures.sent)
+    refl (rw (same_as_itself run.object.0) refl)))
     c.post.ensures.takes

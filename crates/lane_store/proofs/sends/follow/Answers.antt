@@ -1,6 +1,7 @@
 use Rattle.std.proofs.Common.{refl, length, sym, ap, ◌∙◌, inr, Some}
 use Rattle.std.specs.Option.{option_map}
 use Rattle.std.specs.Arc.{arc_value}
+use Rattle.std.specs.Vec.{with_item}
 use Rattle.std.proofs.lemmas.Option.{slice_get_read}
 use Rattle.std.proofs.lemmas.Result.{on_ok_weaker}
 use Rattle.set_queue.specs.declared.message.Message.TheVariants as message
@@ -11,7 +12,9 @@ use Rattle.lane_store.specs.LaneStores.{has_worker_in, stores_of}
 use Rattle.lane_objects.proofs.ListLemmas.{set_same}
 use Rattle.lane_objects.proofs.OutcomeLemmas.{laws_from, found_object, is_in_lane, value_there}
 use Rattle.lane_objects.proofs.RunLemmas.{has_followed}
-use Rattle.lane_store.proofs.StoreLemmas.{store_here, comes_to_whole, sends}
+use Rattle.lane_store.proofs.ViewLemmas.{store_here}
+use Rattle.lane_store.proofs.ComeLemmas.{follow_enters}
+use Rattle.lane_store.proofs.StoreLemmas.{comes_to_whole, sends}
 use Rattle.lane_store.proofs.sends.follow.Goals as goal
 
 pub post-requires : goal.post-requires
@@ -66,5 +69,8 @@ returns-clause-sends g c =
     (comes_to_whole m home_of old (c.requires.whole.lanes c.args.lane old here)) refl
     (value_there objects stores c.args.lane was run.object.0 found.0 _ c.requires.whole.apart
     (store_here m home_of ends c.args.lane old here) found.1 found.2 refl))
-    (sym (set_same objects run.object.0 found.0 found.1)) refl refl refl)
+    (sym (set_same objects run.object.0 found.0 found.1)) refl refl refl
+    (follow_enters m home_of store
+    (record store { ends = with_item store.ends c.args.lane c.post.new.end }) c.args.lane old c.post.new.end x run c.args.op read
+    c.requires.whole here takes refl refl refl refl refl))
     c.post.ensures.takes
