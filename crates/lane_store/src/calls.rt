@@ -7,6 +7,7 @@ ghost use Rattle.partition_check.specs.MarkedAfter.{marked_after};
 ghost use Rattle.partition_check.specs.Marked.{set_delegated};
 ghost use Rattle.execution_definitions.specs.Sequential.{operated};
 ghost use Rattle.lane_objects.specs.Objects.{value_at_home, found_at, NoneSent};
+ghost use Rattle.class_laws.specs.Laws.{ReducibleLaws};
 ghost use Rattle.lane_store.specs.Running.{TakesEffect};
 ghost use Rattle.lane_store.specs.LaneStores.{store_state, IsWholeStore, AreIdle, Continues, IsAdded, IsUnchanged, IsIdleFor, IsCaughtUp, IsNewStore, has_worker_at};
 
@@ -207,7 +208,8 @@ pub fn into_values<C: LocalClass>(
     Ok(values)
 }
 
-/// Runs an operation on an object at home.
+/// Runs an operation on an object at home. What it contributed is joined to the total at home, and
+/// joins keep the laws of a reducible.
 pub fn operate<C: LocalClass, W: LaneWorker<C>>(
     store: &mut LaneStore<C, W>,
     o: ObjectId,
@@ -219,6 +221,8 @@ pub fn operate<C: LocalClass, W: LaneWorker<C>>(
     ensures state { OnOk result (store_state C.local_meaning W.home_of store.new
         ≡ operated C.local_meaning (store_state C.local_meaning W.home_of store.old) o.0 op.now
         None) }
+    ensures lawful { OnOk result
+        (ReducibleLaws C.local_meaning.unit C.local_meaning.join) }
     ensures effect { OnOk result (TakesEffect C.local_meaning store.old.objects.items
         store.new.objects.items store.old.total store.new.total o.0 op.now) }
     ensures whole { OnOk result (IsWholeStore C.local_meaning W.home_of store.new) }

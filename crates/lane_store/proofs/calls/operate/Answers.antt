@@ -37,6 +37,7 @@ returns g c =
           c.local_apply.new.self store.total c.local_apply.new.red laws
           at c.in_ok-value.ensures.value
           value_is sum_is;
+      lawful = laws;
       effect = record {
         value = c.in_ok-value.value;
         was = value_at m g.W.LaneWorker.home_of objects c.args.o.0 old at
