@@ -3,3 +3,4 @@ mod PlacedLemmas
 mod KeptLemmas
 mod RunningLemmas
 mod ViewLemmas
+mod EventLemmas

@@ -20,8 +20,10 @@ use Rattle.lane_objects.specs.Objects.{value_at_home, found_at}
 use Rattle.lane_store.specs.declared.store.LaneStore.{LaneStore}
 use Rattle.lane_store.specs.LaneStores.{has_worker_at}
 use Rattle.lane_rt.specs.Kept.{HoldsTogether}
-use Rattle.lane_rt.specs.Moves.{is_out, works, works_for, lanes_moves}
-use Rattle.lane_rt.specs.Seen.{LanesValue, lanes_of}
+use Rattle.lane_rt.specs.Moves.{is_out, works, works_for, places, Moves}
+use Rattle.lane_ends.specs.Workers.{home_given}
+use Rattle.lane_store.specs.Running.{lanes_of}
+use Rattle.lane_rt.specs.Seen.{LanesValue}
 use Rattle.lane_rt.proofs.PlacedLemmas.{held_delegated, held_accepted}
 
 both_true : (a b : Bool) → (a && b) ≡ true → (a ≡ true) × (b ≡ true)
@@ -49,7 +51,7 @@ module _ {C G O R : Type 0} (m : Meaning C O R) where
   -- who takes from a lane
   pub works_is : (logs : List (List Run))
       (ends : List (LaneEnd C (RunningJob (DelegateJob C G O R)) O R)) (l : ℕ) →
-      works (slice_get (lanes_of m logs ends) l) ≡ has_worker_at ends l
+      works (slice_get (lanes_of m home_given logs ends) l) ≡ has_worker_at ends l
   works_is [] [] l = refl
   works_is (log ∷ logs) [] l = refl
   works_is [] (end ∷ ends) zero = refl
@@ -64,11 +66,11 @@ module _ {C G O R : Type 0} (m : Meaning C O R) where
       judged marks (delegate o own reading) ≡ None →
       set.0 ≡ set_marked (mark_at marks o) o own → lane ≡ lane_of_set set.0 n →
       (is_out (slice_get (map value_at_home store.objects.items) o)
-      && works_for (lanes_of m store.logs.items store.ends.items) n (set_delegated marks o)) ≡ true →
+      && works_for (lanes_of m home_given store.logs.items store.ends.items) n (set_delegated marks o)) ≡ true →
       (found_at store.objects.items o ≡ Some (lane, o)) × (has_worker_at store.ends.items lane ≡ true)
   away_sent store marks n o own lane reading set kept accepted set_is lane_is away =
       let objects = store.objects.items in
-      let lanes = lanes_of m store.logs.items store.ends.items in
+      let lanes = lanes_of m home_given store.logs.items store.ends.items in
       let parts = both_true (is_out (slice_get (map value_at_home objects) o))
       (works_for lanes n (set_delegated marks o)) away in
       let found = there_is (found_at objects o) (sym (out_is objects o) ∙ parts.0) in
@@ -84,16 +86,21 @@ module _ {C G O R : Type 0} (m : Meaning C O R) where
             ∙ sym (ap (works_for lanes n) (held_delegated marks o was.set was.held)) ∙ parts.1,
       )
 
-module _ {C O R : Type 0} where
+module _ {C O R : Type 0} (m : Meaning C O R) where
+  failed_places : (lanes : LanesValue C O R) (made : Call C O) →
+      lanes.runtime.has_failed ≡ true → places lanes lanes made (Some OutOfMemory)
+  failed_places lanes (Make value by) failed = tt
+  failed_places lanes (MakeFixed value) failed = tt
+  failed_places lanes Begin failed = tt
+  failed_places lanes (Delegate object op reading) failed =
+      record { out = λ is. absurd cc; succeeds = λ none away is. failed }
+  failed_places lanes (Write object op) failed = λ is. absurd cc
+  failed_places lanes (Get object) failed = λ is. absurd cc
+  failed_places lanes End failed = λ is. absurd cc
+  failed_places lanes Total failed = tt
+
   -- each call of a runtime that failed wants memory because an earlier one did
   pub failed_moves : (lanes : LanesValue C O R) (made : Call C O) →
-      lanes.runtime.has_failed ≡ true → lanes_moves lanes lanes made (Some OutOfMemory)
-  failed_moves lanes (Make value by) failed = tt
-  failed_moves lanes (MakeFixed value) failed = tt
-  failed_moves lanes Begin failed = tt
-  failed_moves lanes (Delegate object op reading) failed =
-      record { out = λ is. absurd cc; succeeds = λ none away is. failed }
-  failed_moves lanes (Write object op) failed = λ is. absurd cc
-  failed_moves lanes (Get object) failed = λ is. absurd cc
-  failed_moves lanes End failed = λ is. absurd cc
-  failed_moves lanes Total failed = tt
+      lanes.runtime.has_failed ≡ true → Moves m lanes lanes made (Some OutOfMemory)
+  failed_moves lanes made failed =
+      record { objects = failed_places lanes made failed; event = λ is. absurd cc }

@@ -33,14 +33,16 @@ pub struct Lanes<C: Class + 'static, G: Gate + 'static> {
 }
 
 impl<C: Class + 'static, G: Gate + 'static> Model for Lanes<C, G> {
-    ghost use Rattle.lane_rt.specs.Seen.{LanesValue, seen_of, running_of};
+    ghost use Rattle.lane_ends.specs.Workers.{home_given};
+    ghost use Rattle.lane_store.specs.Running.{running_of};
+    ghost use Rattle.lane_rt.specs.Seen.{LanesValue, seen_of};
     ghost use Rattle.lane_rt.specs.Kept.{IsKept};
 
     ghost Value = { LanesValue C C.Op C.Red };
 
     ghost view = { λ lanes. record {
       runtime = seen_of C.meaning lanes.store lanes.marks lanes.delegates lanes.has_failed;
-      running = running_of C.meaning lanes.store lanes.marks lanes.has_failed;
+      running = running_of C.meaning home_given lanes.store lanes.marks lanes.has_failed;
     } };
 
     ghost invariant = { λ lanes. IsKept C.meaning lanes.store lanes.marks lanes.delegates
@@ -105,11 +107,11 @@ impl<C: Class + 'static, G: Gate + 'static> Lanes<C, G> {
 impl<C: Class + 'static, G: Gate + 'static> Runtime<C> for Lanes<C, G> {
     type Task = DelegateJob<C, G>;
 
-    ghost use Rattle.lane_rt.specs.Moves.{lanes_moves};
+    ghost use Rattle.lane_rt.specs.Moves.{Moves};
 
     ghost seen = { λ lanes. lanes.runtime };
 
-    ghost moves = { lanes_moves };
+    ghost moves = { Moves C.meaning };
 
     fn has_failed(&self) -> bool {
         self.has_failed

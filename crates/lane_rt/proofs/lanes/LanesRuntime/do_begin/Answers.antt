@@ -5,7 +5,9 @@ use Rattle.lane_ends.specs.Workers.{home_given}
 use Rattle.partition_check.specs.MarkedAfter.{cleared_mark}
 use Rattle.lane_store.proofs.IdleLemmas.{idle_home}
 use Rattle.partition_check.proofs.represents.JudgedLemmas.{closed_from}
+use Rattle.lane_store.proofs.ComeLemmas.{comes_on_itself}
 use Rattle.lane_rt.proofs.CallLemmas.{store_done}
+use Rattle.lane_rt.proofs.EventLemmas.{begin_event}
 use Rattle.lane_rt.proofs.PlacedLemmas.{placed_home}
 use Rattle.lane_rt.proofs.lanes.LanesRuntime.do_begin.Goals as goal
 
@@ -54,3 +56,28 @@ returns-clause-answered g c =
       },
       refl,
     )
+
+pub returns-clause-moves : goal.returns-clause-moves
+returns-clause-moves g c =
+    let usable : c.self.inside.has_failed ≡ false =
+    ap (λ seen. seen.runtime.has_failed) c.self.view_is ∙ c.requires.usable in
+    let m = g.C.Class.meaning in
+    let kept = c.self.invariant.kept usable in
+    let store = c.self.inside.store in
+    let idle = kept.idle (closed_from c.self.inside.marks.is_open _ _ c.in_ok-begin.ensures.judged) in
+    rw (← c.self.view_is) (record {
+      objects = tt;
+      event = λ done before after. begin_event m store store c.self.inside.marks _
+          c.self.inside.delegates c.self.inside.has_failed before usable kept
+          (record {
+            whole = kept.whole;
+            marked = kept.marked ∙ sym (ap (λ marks. length marks.objects)
+                c.in_ok-begin.ensures.after ∙ length-map c.self.inside.marks.objects cleared_mark);
+            lane_count = kept.lane_count;
+            log_count = kept.log_count;
+            idle = λ closed. idle;
+            placed = placed_home store.objects.items _ _ (idle_home m home_given store.objects.items
+                store.ends.items kept.whole.apart idle);
+          })
+          (comes_on_itself m home_given store store refl refl refl refl);
+    })

@@ -7,6 +7,7 @@ use Rattle.lane_store.proofs.IdleLemmas.{idle_home}
 use Rattle.lane_rt.proofs.CallLemmas.{store_done}
 use Rattle.lane_rt.proofs.PlacedLemmas.{placed_home}
 use Rattle.lane_rt.proofs.RunningLemmas.{out_is}
+use Rattle.lane_rt.proofs.EventLemmas.{end_event}
 use Rattle.lane_rt.proofs.lanes.LanesRuntime.do_end.Goals as goal
 
 pub invariant_of-self-in-Ok : goal.invariant_of-self-in-Ok
@@ -30,10 +31,30 @@ invariant_of-self-in-Ok g c =
 
 pub returns-clause-moves : goal.returns-clause-moves
 returns-clause-moves g c =
+    let usable : c.self.inside.has_failed ≡ false =
+    ap (λ seen. seen.runtime.has_failed) c.self.view_is ∙ c.requires.usable in
+    let m = g.C.Class.meaning in
+    let kept = c.self.invariant.kept usable in
+    let on = c.in-Ok.ensures.continues in
+    let idle = c.in-Ok.ensures.idle in
     let new = c.bring_all_home.new.store in
-    λ done object. out_is new.objects.items object
-    ∙ ap (λ found. is_some found) (idle_home g.C.Class.meaning home_given new.objects.items
-    new.ends.items c.in-Ok.ensures.continues.whole.apart c.in-Ok.ensures.idle object)
+    let home = idle_home m home_given new.objects.items new.ends.items on.whole.apart idle in
+    rw (← c.self.view_is) (record {
+      objects = λ done object. out_is new.objects.items object
+          ∙ ap (λ found. is_some found) (home object);
+      event = λ done before after. end_event m c.self.inside.store new c.self.inside.marks _
+          c.self.inside.delegates c.self.inside.has_failed before usable kept
+          (record {
+            whole = on.whole;
+            marked = on.objects ∙ kept.marked ∙ sym (ap (λ marks. length marks.objects)
+                c.in_ok-end.ensures.after ∙ length-map c.self.inside.marks.objects cleared_mark);
+            lane_count = on.lanes ∙ kept.lane_count;
+            log_count = sym on.logs.count ∙ kept.log_count;
+            idle = λ closed. idle;
+            placed = placed_home new.objects.items _ _ home;
+          })
+          on.comes_on idle;
+    })
 
 pub returns-clause-answered : goal.returns-clause-answered
 returns-clause-answered g c =

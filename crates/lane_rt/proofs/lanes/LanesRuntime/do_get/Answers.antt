@@ -8,6 +8,7 @@ use Rattle.lane_rt.specs.Seen.{seen_of}
 use Rattle.lane_rt.proofs.CallLemmas.{store_done, caught_up}
 use Rattle.lane_rt.proofs.KeptLemmas.{kept_on}
 use Rattle.lane_rt.proofs.RunningLemmas.{out_is}
+use Rattle.lane_rt.proofs.EventLemmas.{get_event}
 use Rattle.lane_rt.proofs.lanes.LanesRuntime.do_get.Goals as goal
 
 pub reclaim-requires-clause-idle : goal.reclaim-requires-clause-idle
@@ -64,8 +65,19 @@ returns g c =
             },
             sym (ap (λ found. option_map reply.Value found) value),
           ),
-          (λ done. out_is new.objects.items c.args.o.0
-              ∙ ap (λ found. is_some found) c.in-Ok.ensures.home),
+          record {
+            objects = λ done. out_is new.objects.items c.args.o.0
+                ∙ ap (λ found. is_some found) c.in-Ok.ensures.home;
+            event = λ done before after. get_event m c.self.inside.store new c.self.inside.marks
+                c.note_call.new.self c.self.inside.delegates c.self.inside.has_failed before usable kept
+                (kept_on m c.self.inside.store new c.self.inside.marks c.note_call.new.self
+                c.self.inside.delegates kept on
+                (length-noted _ _ (Some c.args.o.0) c.note_call.ensures.after) c.args.o.0
+                c.note_call.ensures.after c.in-Ok.ensures.home
+                (λ closed. c.in-Ok.ensures.idle
+                (sym (ap (λ marks. marks.is_open) c.note_call.ensures.after) ∙ closed)))
+                c.args.o on.comes_on after.marks c.in-Ok.ensures.idle_for;
+          },
         ),
       ),
       record { after = tt; value = value },

@@ -8,6 +8,7 @@ use Rattle.lane_objects.specs.Outcomes.{value_after}
 use Rattle.lane_store.specs.LaneStores.{stores_of}
 use Rattle.lane_rt.proofs.CallLemmas.{store_done}
 use Rattle.lane_rt.proofs.KeptLemmas.{kept_added}
+use Rattle.lane_rt.proofs.EventLemmas.{made_event}
 use Rattle.lane_rt.proofs.lanes.LanesRuntime.do_make.Goals as goal
 
 pub invariant_of-self : goal.invariant_of-self
@@ -50,3 +51,21 @@ returns-in-Ok-clause-answered g c =
           (made.number ∙ sym kept.marked
           ∙ sym (length-map store.objects.items (value_after (stores_of m home_given store.ends.items)))),
     )
+
+pub returns-in-Ok-clause-moves : goal.returns-in-Ok-clause-moves
+returns-in-Ok-clause-moves g c =
+    let usable : c.self.inside.has_failed ≡ false =
+    ap (λ seen. seen.runtime.has_failed) c.self.view_is ∙ c.requires.usable in
+    let m = g.C.Class.meaning in
+    let kept = c.self.invariant.kept usable in
+    let made = c.in-Ok.ensures in
+    rw (← c.self.view_is) (record {
+      objects = tt;
+      event = λ done before after. made_event m c.self.inside.store c.add.new.store
+          c.self.inside.marks c.add.new.marks c.self.inside.delegates c.self.inside.has_failed before
+          usable kept
+          (kept_added m c.self.inside.store c.add.new.store c.self.inside.marks c.add.new.marks
+          c.self.inside.delegates kept c.args.value made.added _ (ap (λ marks. marks.objects) made.marks)
+          (ap (λ marks. marks.is_open) made.marks))
+          c.args.value c.args.by made.added;
+    })

@@ -5,7 +5,9 @@ use Rattle.delegation.proofs.runs.FrontLemmas.{fronts_same}
 use Rattle.lane_ends.specs.Workers.{home_given}
 use Rattle.lane_store.proofs.IdleLemmas.{idle_total}
 use Rattle.partition_check.proofs.represents.JudgedLemmas.{closed_from}
+use Rattle.lane_store.proofs.ComeLemmas.{comes_on_itself}
 use Rattle.lane_rt.proofs.CallLemmas.{store_done}
+use Rattle.lane_rt.proofs.EventLemmas.{total_event}
 use Rattle.lane_rt.proofs.PlacedLemmas.{placed_on}
 use Rattle.lane_rt.proofs.lanes.LanesRuntime.do_total.Goals as goal
 
@@ -58,7 +60,22 @@ returns g c =
             },
             ap (λ total. Some (reply.Total total)) total,
           ),
-          tt,
+          record {
+            objects = tt;
+            event = λ done before after. total_event m store store c.self.inside.marks
+                c.note_call.new.self c.self.inside.delegates c.self.inside.has_failed before usable kept
+                (record {
+                  whole = kept.whole;
+                  marked = kept.marked ∙ sym (length-noted _ _ None c.note_call.ensures.after);
+                  lane_count = kept.lane_count;
+                  log_count = kept.log_count;
+                  idle = λ closed. idle;
+                  placed = placed_on store.objects.items store.objects.items c.self.inside.marks
+                      c.note_call.new.self c.self.inside.delegates (λ n k number is. is)
+                      (ap (λ marks. marks.objects) c.note_call.ensures.after) kept.placed;
+                })
+                (comes_on_itself m home_given store store refl refl refl refl);
+          },
         ),
       ),
       record { after = tt; total = total },

@@ -3,4 +3,4 @@ use Rattle.lane_rt.proofs.lanes.LanesRuntime.has_failed.Goals as goal
 
 pub returns-clause-moves : goal.returns-clause-moves
 returns-clause-moves g c =
-    rw (← c.self.view_is) (λ failed made. failed_moves _ made failed)
+    rw (← c.self.view_is) (λ failed made. failed_moves g.C.Class.meaning _ made failed)
