@@ -1,5 +1,5 @@
--- Programs of one epoch: an object is made that is only read, others are made, and operations on those
--- are delegated that read the first. None of their calls is refused.
+-- Programs that make objects first, and such of one epoch: an object is made that is only read, others
+-- are made, and operations on those are delegated that read the first. None of their calls is refused.
 use Rattle.std.proofs.Common.{◌≡◌, ℕ, ◌+◌, ◌^◌, ◌<◌, ◌≤◌, inr, List, [], ◌∷◌, ◌++◌, length, refl, sym}
 use Rattle.std.proofs.Common.{subst, arith}
 use Rattle.std.specs.List.{AllByRecursion}
@@ -34,6 +34,25 @@ steps (c ∷ cs) all = (
       (prepared-made k k list (omega arith) all.0.by below is),
   steps cs all.1,
 )
+
+-- from no call on
+prepared-none : IsPrepared 0 [] 0
+prepared-none = record {
+  sound = refl;
+  closed = refl;
+  count = refl;
+  few = omega arith;
+  writable = λ o some below. absurd (omega arith);
+}
+
+-- nothing but objects is made
+pub prepared-makes : (made : List Shape) → length made ≤ 1048576 → AllByRecursion IsMake made
+    → IsPrepared (length made) made (length made)
+prepared-makes made few all =
+    let same : 0 + length made ≡ length made = omega arith in
+    subst (λ k. IsPrepared k made k) same
+    (each-kept (λ list k. IsPrepared k list k) 1048576 made [] 0 (steps made all) (omega arith)
+    prepared-none)
 
 pub prepared-objects : (n : ℕ) (made : List Shape) → length made ≡ n → n < 1048576
     → AllByRecursion IsMake made → IsPrepared (1 + n) (make_fixed ∷ made) (1 + n)

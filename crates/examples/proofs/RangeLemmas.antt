@@ -26,7 +26,7 @@ range-parts a (suc k) m =
     ∙ ap (λ ks. a ∷ ks) (range-parts (a + 1) k m
     ∙ ap (λ b. range_with_len (a + 1) k ++ range_with_len b m) place)
 
-range-more : (k : ℕ) → range_with_len 0 (k + 1) ≡ range_with_len 0 k ++ k ∷ []
+pub range-more : (k : ℕ) → range_with_len 0 (k + 1) ≡ range_with_len 0 k ++ k ∷ []
 range-more k =
     let place : 0 + k ≡ k = omega arith in
     range-parts 0 k 1 ∙ ap (λ b. range_with_len 0 k ++ b ∷ []) place
