@@ -6,7 +6,11 @@
 
 mod accounts;
 mod bases;
+mod grid;
 mod outcome;
+mod rows;
 
 pub use accounts::{Booking, Fees, Holding, Transfer, are_between, settle};
 pub use bases::{Block, Count, Part, Spelling, Tally, histogram};
+pub use grid::spread;
+pub use rows::{Intake, Row};
