@@ -5,3 +5,5 @@
 mod accounts;
 #[cfg(test)]
 mod bases;
+#[cfg(test)]
+mod grid;
