@@ -51,8 +51,11 @@ pub run_is : (marks : Marked) (calls : List Shape) → Represents marks calls �
       object = object_id object;
     })
 run_is marks calls r object own reading =
-    sym (rw (r.call_count, r.epochs,
-    set_marked-represents marks calls r object own (mark_at marks object) refl) refl)
+    sym (rw (
+      r.call_count,
+      r.epochs,
+      set_marked-represents marks calls r object own (mark_at marks object) refl,
+    ) refl)
 
 -- is that which is sent
 pub same_run : (calls k epochs e set s : ℕ) (o : ObjectId) → k ≡ calls → e ≡ epochs → s ≡ set →
